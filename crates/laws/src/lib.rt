@@ -1,0 +1,1 @@
+// No functions: the definitions and laws that every crate cites.
