@@ -1,0 +1,64 @@
+-- `samples::intra_plane::luma_at` meets its contract: what is read round the block is its neighbourhood in the plane. Assumes nothing.
+use mathlib.Core.Path.{_≡_, ap, _∙_}
+use mathlib.Core.Bool.{true}
+use mathlib.Core.List.{List, _++_}
+use Prim.Native.Nat.{ℕ, _-_}
+use native.Mathlib.Omega.{arith}
+use denote.Ref.{now}
+use lib.ListN.{length, drop}
+use Rattle.samples.specs.Intra16x16.{predL}
+use Rattle.samples.specs.Near.{nearIn}
+use Rattle.samples.proofs.IntraPlane.{column-in, down-in, near-in, luma-in}
+use borrow.Author.Needs.{needs}
+use Rattle.samples.proofs.intra_plane.luma_at.Statement.{statement}
+use Rattle.samples.proofs.intra_plane.luma_at.Tie as tie
+
+returns : tie.Need-returns
+unfolding predL
+returns c =
+    let d = c .before .before in
+    let z = d .before .before .before .before .before .before in
+    let a = z .args in
+    let h : a .mode ≡ 0 = omega arith in
+    down-in 16 (a .base) (a .stride) (now (a .rec)) (z .pre .2) (now (a .pred)) (predL (a .mode) true true (nearIn (now (a .rec)) (a .base - a .stride - 1) (a .stride)))
+    (omega arith) (d .down .ensures) (λ x y. rw h)
+
+side-of-requires : tie.Need-side-of-requires
+side-of-requires c κs =
+    let z = c .before .before .before in
+    (omega arith, column-in 16 (length (now (z .args .rec))) (z .args .base) (z .args .stride) (z .pre .2))
+
+returns-2 : tie.Need-returns-2
+returns-2 c =
+    let w = c .before .before in
+    let f = w .before .before .before .before .before in
+    let z = f .before .before .before .before in
+    let a = z .args in
+    w .predict-16x16 .ensures
+    ∙ ap (λ (b : List ℕ). b ++ drop 256 (now (a .pred)))
+    (luma-in (a .mode) _ _ (z .pre .0) (near-in 16 (a .base) (a .stride) (now (a .rec)) _ (z .pre .2) (f .side-of .ensures)))
+
+pub luma-at-spec : {M : Type 1} → statement M
+luma-at-spec =
+    tie.close
+    (tie.spec
+    (λ c. search needs)
+    (λ c. search needs)
+    (λ c. search needs)
+    (λ c. search needs)
+    (λ c κs. search needs)
+    (λ c. search needs)
+    returns
+    (λ c. search needs)
+    side-of-requires
+    (λ c. search needs)
+    (λ c. search needs)
+    (λ c. search needs)
+    (λ c. search needs)
+    (λ c. search needs)
+    (λ c. search needs)
+    (λ c. search needs)
+    (λ c. search needs)
+    (λ c κs. search needs)
+    (λ c. search needs)
+    returns-2)

@@ -1,0 +1,44 @@
+-- `samples::line::sum_of` meets its contract. After i turns s is the sum of i samples. Assumes nothing.
+use mathlib.Core.Path.{_≡_, refl}
+use Prim.Native.Nat.{_+_, _-_, _*_, _≤_}
+use native.Mathlib.Omega.{arith}
+use lib.ListN.{getD}
+use Rattle.laws.specs.Table.{sumOf}
+use Rattle.laws.proofs.Sums.{sum-more}
+use borrow.Author.Needs.{needs}
+use Rattle.samples.proofs.line.sum_of.Statement.{statement}
+use Rattle.samples.proofs.line.sum_of.Tie as tie
+
+abbrev Inv-loop : tie.InvT-loop
+Inv-loop side from n s₀ i₀ s i = (i ≤ n) × (s ≡ sumOf i (λ k. getD side (from + k) 0)) × (s ≤ 255 * i)
+
+abbrev μ-loop : tie.MeasureT-loop
+μ-loop side from n s₀ i₀ s i = n - i
+
+loop-holds : tie.Need-loop-holds Inv-loop μ-loop
+unfolding sumOf
+loop-holds c = (omega arith, refl, omega arith)
+
+loop-again : tie.Need-loop-again Inv-loop μ-loop
+loop-again c = (omega arith, sum-more _ _ _ _ (c .before .before .before .loop .inv .1) (c .wide .ensures .0), omega arith)
+
+returns : tie.Need-returns Inv-loop μ-loop
+returns c =
+    let e : c .before .loop .i ≡ c .before .before .before .args .n = omega arith in
+    rw (← e) (c .before .loop .inv .1, c .before .loop .inv .2)
+
+pub sum-of-spec : {M : Type 1} → statement M
+sum-of-spec =
+    tie.close
+    (tie.spec
+    Inv-loop
+    μ-loop
+    loop-holds
+    (λ c. search needs)
+    (λ c. search needs)
+    (λ c κs. search needs)
+    (λ c. search needs)
+    (λ c. search needs)
+    (λ c. search needs)
+    loop-again
+    returns)

@@ -1,0 +1,15 @@
+-- The numbers that may be given: those of 16-bit two's complement (docs/RULES.md, refusal 8).
+use mathlib.Core.Bool.{Bool, true, _&&_}
+use mathlib.Core.List.{List, [], _∷_}
+use Prim.Native.Nat.{ℕ}
+use lib.IntN.{ℤ, pos}
+use lib.Signed.{leZ}
+use Rattle.laws.specs.Range.{minus}
+
+-- -32768..32767
+unfoldable pub inRange : ℤ → Bool
+inRange z = leZ (minus 32768) z && leZ z (pos 32767)
+
+unfoldable pub allInRange : List ℤ → Bool
+allInRange [] = true
+allInRange (z ∷ zs) = inRange z && allInRange zs

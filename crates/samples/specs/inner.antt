@@ -1,0 +1,5 @@
+-- What only the contracts of private functions speak of.
+pub mod Line
+pub mod Plane
+pub mod Room
+pub mod Run

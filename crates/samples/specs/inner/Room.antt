@@ -1,0 +1,10 @@
+-- Room for reading round a block in a plane.
+use Prim.Native.Nat.{ℕ, _+_, _-_, _*_, _≤_, _<_}
+
+-- what the test `roomRound` says where it holds
+pub record Room (n len base stride : ℕ) : Type 0 where
+  pub some : 0 < stride
+  pub most : stride ≤ 4096
+  pub corner : stride < base
+  pub row : base + n ≤ len + stride
+  pub column : base + (n - 1) * stride ≤ len

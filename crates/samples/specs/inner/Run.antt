@@ -1,0 +1,43 @@
+-- The one list of 81 that the 4x4 and 8x8 predictors work on: from 54 on the run of a block's neighbours, and before it means of the run.
+use mathlib.Core.Path.{_≡_}
+use mathlib.Core.List.{List}
+use Prim.Native.Nat.{ℕ, _+_, _-_, _*_, _≤_, _<_}
+use lib.ListN.{getD, length}
+use Rattle.samples.specs.IntraNxN.{mean2, mean3}
+use Rattle.samples.specs.Near.{Near}
+
+-- t holds the neighbourhood p of a block of side n: the corner at 63, above to the right of it, left to the left of it, and the last sample of
+-- either side once more
+pub record Run (n : ℕ) (p : Near) (t : List ℕ) : Type 0 where
+  pub size : length t ≡ 81
+  pub above : (i : ℕ) → i ≤ 2 * n → getD t (63 + i) 0 ≡ p i 0
+  pub left : (j : ℕ) → j ≤ n → getD t (63 - j) 0 ≡ p 0 j
+  pub last-above : getD t (64 + 2 * n) 0 ≡ p (2 * n) 0
+  pub last-left : getD t (62 - n) 0 ≡ p 0 n
+
+-- t holds the means of its run: at 2k that of three around place 54 + k, at 2k + 1 that of two from there on
+pub record Means (n : ℕ) (t : List ℕ) : Type 0 where
+  pub three : (k : ℕ) → 9 ≤ k + n → k ≤ 9 + 2 * n → getD t (2 * k) 0 ≡ mean3 (getD t (53 + k) 0) (getD t (54 + k) 0) (getD t (55 + k) 0)
+  pub two : (k : ℕ) → 9 ≤ k + n → k ≤ 9 + 2 * n → getD t (2 * k + 1) 0 ≡ mean2 (getD t (54 + k) 0) (getD t (55 + k) 0)
+
+-- f holds at 54 on the means of three around each place of e's run, and at its ends those next to them once more
+pub record Filtered (n : ℕ) (e f : List ℕ) : Type 0 where
+  pub size : length f ≡ 81
+  pub three : (i : ℕ) → 63 ≤ i + n → i ≤ 63 + 2 * n → getD f i 0 ≡ mean3 (getD e (i - 1) 0) (getD e i 0) (getD e (i + 1) 0)
+  pub end-left : getD f (62 - n) 0 ≡ getD f (63 - n) 0
+  pub end-above : getD f (64 + 2 * n) 0 ≡ getD f (63 + 2 * n) 0
+
+-- i is where the list holds the sample in column x and row y, in each mode but DC
+pub record Placed (mode n x y i : ℕ) : Type 0 where
+  pub inside : i < 81
+  pub at-0 : mode ≡ 0 → i ≡ 64 + x
+  pub at-1 : mode ≡ 1 → i ≡ 62 - y
+  pub at-3 : mode ≡ 3 → i ≡ 22 + 2 * (x + y)
+  pub at-4 : mode ≡ 4 → i ≡ 18 + 2 * x - 2 * y
+  pub at-5 : mode ≡ 5 → y ≤ 2 * x + 1 → i ≡ 19 + 2 * x - y
+  pub past-5 : mode ≡ 5 → 2 * x + 1 < y → i ≡ 20 + 4 * x - 2 * y
+  pub at-6 : mode ≡ 6 → x ≤ 2 * y + 1 → i ≡ 17 + x - 2 * y
+  pub past-6 : mode ≡ 6 → 2 * y + 1 < x → i ≡ 16 + 2 * x - 4 * y
+  pub at-7 : mode ≡ 7 → i ≡ 21 + 2 * x + y
+  pub at-8 : mode ≡ 8 → x + 2 * y ≤ 2 * n - 3 → i ≡ 15 - (x + 2 * y)
+  pub past-8 : mode ≡ 8 → 2 * n - 3 < x + 2 * y → i ≡ 63 - n

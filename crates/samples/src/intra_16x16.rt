@@ -1,0 +1,101 @@
+// Intra 16x16 luma prediction (clause 8.3.3): 0 vertical, 1 horizontal, 2 DC, 3 plane.
+ghost use mathlib.Core.Path.{_≡_};
+ghost use Prim.Native.Nat.{ℕ, _≤_};
+ghost use mathlib.Core.List.{_++_};
+ghost use lib.ListN.{length, drop, replicate};
+ghost use Rattle.laws.specs.Answer.{written};
+ghost use Rattle.laws.specs.Table.{blockOf};
+ghost use Rattle.samples.specs.Intra16x16.{predL};
+ghost use Rattle.samples.specs.Marks.{permitted16x16, modeAnswer};
+ghost use Rattle.samples.specs.Near.{near, dc};
+use super::line::across;
+use super::line::down;
+use super::line::fill;
+use super::line::sum_of;
+use super::marks::mode_answer;
+use super::marks::permits_16x16;
+use super::mean::mean_of;
+use super::plane_mode::plane_over;
+
+// The answer, and the block in raster order, zeros where the call is refused.
+pub struct Pred16x16 {
+    pub answer: u32,
+    pub block: [u8; 256],
+}
+
+// The one sample of DC, from the marks of above and left and their samples.
+pub fn luma16x16_dc(avail_top: bool, avail_left: bool, top: &[u8; 16], left: &[u8; 16]) -> u8
+    ensures { λ r. ⌜ r ≡ dc 16 «avail_top» «avail_left» (near (now (top .entry)) (now (left .entry)) 0) ⌝ }
+{
+    dc_16x16(avail_top, avail_left, top, left)
+}
+
+// The block of a mode, from the marks, the row above, the column to the left and the sample at the corner.
+pub fn luma16x16_pred(
+    mode: u8,
+    avail_top: bool,
+    avail_left: bool,
+    avail_corner: bool,
+    top: &[u8; 16],
+    left: &[u8; 16],
+    corner: u8,
+) -> Pred16x16
+    ensures answer { λ r. ⌜ r .answer ≡ modeAnswer 3 (permitted16x16 «avail_top» «avail_left» «avail_corner») mode ⌝ }
+    ensures block { λ r. ⌜ r .block ≡ written (r .answer) (replicate 256 0)
+        (blockOf 16 (predL mode «avail_top» «avail_left» (near (now (top .entry)) (now (left .entry)) corner))) ⌝ }
+{
+    let mut out = [0u8; 256];
+    let answer = mode_answer(
+        mode,
+        3,
+        permits_16x16(mode, avail_top, avail_left, avail_corner),
+    );
+    if answer != 0 {
+        return Pred16x16 { answer, block: out };
+    }
+    predict_16x16(mode, avail_top, avail_left, top, left, corner, &mut out);
+    Pred16x16 { answer, block: out }
+}
+
+// The block of a mode over the first 256 bytes of `out`.
+pub(crate) fn predict_16x16(
+    mode: u8,
+    avail_top: bool,
+    avail_left: bool,
+    top: &[u8],
+    left: &[u8],
+    corner: u8,
+    out: &mut [u8],
+)
+    requires { ⌜ (mode ≤ 3) × (16 ≤ length (now top)) × (16 ≤ length (now left)) × (256 ≤ length (now out)) ⌝ }
+    ensures { λ _. ⌜ now (out .exit)
+        ≡ blockOf 16 (predL mode «avail_top» «avail_left» (near (now (top .entry)) (now (left .entry)) corner)) ++ drop 256 (now (out .entry)) ⌝ }
+{
+    if mode < 1 {
+        down(16, top, out);
+        return;
+    }
+    if mode < 2 {
+        across(16, left, out);
+        return;
+    }
+    if mode < 3 {
+        fill(dc_16x16(avail_top, avail_left, top, left), 256, out);
+        return;
+    }
+    plane_over(8, 5, top, left, corner, out);
+}
+
+// DC, which does not read the corner.
+fn dc_16x16(avail_top: bool, avail_left: bool, top: &[u8], left: &[u8]) -> u8
+    requires { ⌜ (16 ≤ length (now top)) × (16 ≤ length (now left)) ⌝ }
+    ensures { λ r. ⌜ ((corner : ℕ) → r ≡ dc 16 «avail_top» «avail_left» (near (now (top .entry)) (now (left .entry)) corner)) ⌝ }
+{
+    mean_of(
+        16,
+        avail_top,
+        avail_left,
+        sum_of(top, 0, 16),
+        sum_of(left, 0, 16),
+    )
+}
