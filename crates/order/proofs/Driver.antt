@@ -1,0 +1,149 @@
+-- A run of calls does what the permitted order of its taken calls does. Assumes nothing.
+use mathlib.Core.Path.{_≡_, refl, sym, ap, ap₂, subst, _∙_}
+use mathlib.Core.List.{List, [], _∷_, map}
+use Prim.Native.Nat.{ℕ, zero, suc, _<_}
+use native.Mathlib.Omega.{arith}
+use lib.ListN.{length, set, replicate, length-set, length-replicate}
+use Rattle.laws.specs.Answer.{written}
+use Rattle.laws.specs.Steps.{upTo}
+use Rattle.order.specs.Order.{Agree, Laws, Done, AllDone, build, marked, Permitted, raster, ones}
+use Rattle.order.specs.Driver.{Driver, View, Started, Fair, after, play, answers, Carries, Acceptable}
+use Rattle.order.proofs.Settled.{untouched, ok-run}
+use Rattle.order.proofs.Count.{ones-set, ones-le, ones-none, full-done}
+use Rattle.order.proofs.Raster.{raster-permitted, length-raster}
+use Rattle.order.proofs.AnyOrder.{done-agrees, any-order}
+
+module _ {S C M : Type 0} {D : Driver S C} {U : View S M} {n : ℕ} {addr : C → ℕ} {waits : C → ℕ → Type 0} (F : Fair D U n addr waits) where
+  -- the state after a call, by its answer
+  is : (c : C) (s : S) {r : ℕ} → D .answer c s ≡ r → after D c s ≡ written r s (D .taken c s)
+  is c s e = ap (λ r. written r s (D .taken c s)) e
+
+  marks-at : (c : C) (s : S) → D .answer c s ≡ 0 → U .done (after D c s) ≡ set (U .done s) (addr c) 1
+  marks-at c s e = ap (U .done) (is c s e) ∙ F .marks c s
+
+  -- the map keeps its length
+  long-after : (c : C) (s : S) → length (U .done s) ≡ n → length (U .done (after D c s)) ≡ n
+  long-after c s l = go (D .answer c s) refl
+    where
+      go : (r : ℕ) → D .answer c s ≡ r → length (U .done (after D c s)) ≡ n
+      go zero e = ap length (marks-at c s e) ∙ length-set (U .done s) (addr c) 1 ∙ l
+      go (suc r) e = ap (λ u. length (U .done u)) (is c s e) ∙ l
+
+  module _ (step : ℕ → M → M) (N : ℕ → ℕ → Type 0) where
+    -- a run and the order of the steps that it took
+    pub record Ran (cs : List C) (s : S) : Type 0 where
+      pub order : List ℕ
+      pub permitted : Permitted n N order (U .done s)
+      pub memory : U .memory (play D cs s) ≡ build step order (U .memory s)
+      pub done : U .done (play D cs s) ≡ marked order (U .done s)
+
+    pub ran : (cs : List C) (s : S) → length (U .done s) ≡ n → Carries D U n addr waits step N cs s → Ran cs s
+    ran [] s l k = record { order = []; permitted = tt; memory = refl; done = refl }
+    ran (c ∷ cs) s l k = go (D .answer c s) refl (ran cs (after D c s) (long-after c s l) (k .1))
+      where
+        go : (r : ℕ) → D .answer c s ≡ r → Ran cs (after D c s) → Ran (c ∷ cs) s
+        go zero e t = record {
+          order = addr c ∷ t .order;
+          permitted = (f .0, f .1, (λ b w. f .2 b (k .0 e .awaits b w)), subst (Permitted n N (t .order)) (marks-at c s e) (t .permitted));
+          memory = t .memory ∙ ap (λ u. build step (t .order) (U .memory u)) (is c s e) ∙ ap (build step (t .order)) (k .0 e .does);
+          done = t .done ∙ ap (marked (t .order)) (marks-at c s e);
+        }
+          where
+            f : (addr c < n) × (¬ Done (U .done s) (addr c)) × ((b : ℕ) → waits c b → Done (U .done s) b)
+            f = F .takes c s e l
+        go (suc r) e t = record {
+          order = t .order;
+          permitted = subst (λ u. Permitted n N (t .order) (U .done u)) (is c s e) (t .permitted);
+          memory = t .memory ∙ ap (λ u. build step (t .order) (U .memory u)) (is c s e);
+          done = t .done ∙ ap (λ u. marked (t .order) (U .done u)) (is c s e);
+        }
+
+  -- the count equals the ones of the map, whatever the calls
+  pub record Counted (s : S) : Type 0 where
+    pub long : length (U .done s) ≡ n
+    pub right : U .count s ≡ ones (U .done s)
+
+  counted-after : (c : C) (s : S) → Counted s → Counted (after D c s)
+  counted-after c s k = go (D .answer c s) refl
+    where
+      go : (r : ℕ) → D .answer c s ≡ r → Counted (after D c s)
+      go zero e = record { long = long-after c s (k .long); right = ap (U .count) (is c s e) ∙ right′ ∙ ap ones (sym (marks-at c s e)) }
+        where
+          t : (addr c < n) × (¬ Done (U .done s) (addr c)) × ((b : ℕ) → waits c b → Done (U .done s) b)
+          t = F .takes c s e (k .long)
+
+          more : ones (set (U .done s) (addr c) 1) ≡ suc (ones (U .done s))
+          more = ones-set (U .done s) (addr c) (rw (k .long) (t .0)) (t .1)
+
+          right′ : U .count (D .taken c s) ≡ ones (set (U .done s) (addr c) 1)
+          right′ =
+              F .counts c s e (k .long)
+              ∙ omega (arith, more, k .right, k .long, ones-le (set (U .done s) (addr c) 1), length-set (U .done s) (addr c) 1)
+      go (suc r) e = subst Counted (sym (is c s e)) k
+
+  counted-run : (cs : List C) (s : S) → Counted s → Counted (play D cs s)
+  counted-run [] s k = k
+  counted-run (c ∷ cs) s k = counted-run cs (after D c s) (counted-after c s k)
+
+  long-start : {s : S} → Started D U n addr s → length (U .done s) ≡ n
+  long-start st = ap length (st .empty) ∙ length-replicate n 0
+
+  counted-start : {s : S} → Started D U n addr s → Counted s
+  counted-start st = record { long = long-start st; right = st .none ∙ sym (ones-none n) ∙ ap ones (sym (st .empty)) }
+
+  pub counted : (cs : List C) {s : S} → Started D U n addr s → U .count (play D cs s) ≡ ones (U .done (play D cs s))
+  counted cs {s} st = counted-run cs s (counted-start st) .right
+
+  -- a count of n says that all is done
+  pub count-full : (cs : List C) {s : S} → Started D U n addr s → U .count (play D cs s) ≡ n → AllDone n (U .done (play D cs s))
+  count-full cs {s} st e a h = full-done (U .done (play D cs s)) (sym (k .right) ∙ e ∙ sym (k .long)) a (omega (arith, k .long))
+    where
+      k : Counted (play D cs s)
+      k = counted-run cs s (counted-start st)
+
+  -- any calls in any order, with refused ones between
+  module _ {I X : Type 0} {N : ℕ → ℕ → Type 0} {at : M → I → X} {ok : M → Type 0} {R : ℕ → I → Type 0} {step : ℕ → M → M} (L : Laws at ok n R N step) where
+    module _ (cs : List C) (s : S) (st : Started D U n addr s) (kp : ok (U .memory s)) (k : Carries D U n addr waits step N cs s) where
+      t : Ran step N cs s
+      t = ran step N cs s (long-start st) k
+
+      allowed : Permitted n N (t .order) (replicate n 0)
+      allowed = subst (Permitted n N (t .order)) (st .empty) (t .permitted)
+
+      ends : U .done (play D cs s) ≡ marked (t .order) (replicate n 0)
+      ends = t .done ∙ ap (marked (t .order)) (st .empty)
+
+      -- a step that is done holds what the order 0, 1, .. gives, whatever the two memories held before
+      pub done-is-raster : (q : M) → ok q → (a : ℕ) → a < n → Done (U .done (play D cs s)) a → Agree at (R a) (U .memory (play D cs s)) (upTo step n q)
+      done-is-raster q kq a ha dn i r = ap (λ m. at m i) (t .memory) ∙ done-agrees L (t .order) (U .memory s) q kp kq allowed a ha (subst (λ d. Done d a) ends dn) i r
+
+      -- a place in no region keeps what it held
+      pub padding-kept : (i : I) → ((a : ℕ) → a < n → ¬ R a i) → at (U .memory (play D cs s)) i ≡ at (U .memory s) i
+      padding-kept i h = ap (λ m. at m i) (t .memory) ∙ untouched L (t .order) (U .memory s) (replicate n 0) kp allowed i h
+
+      -- when all is done, every place holds what the order 0, 1, .. gives, those in no region too
+      pub whole-is-raster : ((i : I) → Dec ((a : ℕ) × (a < n) × R a i)) → AllDone n (U .done (play D cs s)) → (i : I) → at (U .memory (play D cs s)) i ≡ at (upTo step n (U .memory s)) i
+      whole-is-raster tell all i = ap (λ m. at m i) (t .memory) ∙ any-order L tell (t .order) (U .memory s) kp allowed (λ a h. subst (λ d. Done d a) ends (all a h)) i
+
+      pub ok-kept : ok (U .memory (play D cs s))
+      ok-kept = subst ok (sym (t .memory)) (ok-run L (t .order) (U .memory s) (replicate n 0) kp allowed)
+
+    -- a permitted order, offered with acceptable records, meets no refusal
+    module _ {offer : ℕ → C} (A : Acceptable D U n addr N ok step offer) where
+      pub no-refusal : (o : List ℕ) (s : S) → ok (U .memory s) → Counted s → Permitted n N o (U .done s) → answers D (map offer o) s ≡ replicate (length o) 0
+      no-refusal [] s k c t = refl
+      no-refusal (a ∷ o) s k c t =
+          ap₂ (λ x xs. x ∷ xs) e
+          (no-refusal o (after D (offer a) s)
+          (subst ok (sym (ap (U .memory) (is (offer a) s e) ∙ A .does a s (t .0))) (L .keeps a (U .memory s) (t .0) k))
+          (counted-after (offer a) s c)
+          (subst (Permitted n N o) (sym (marks-at (offer a) s e ∙ ap (λ b. set (U .done s) b 1) (A .at a (t .0)))) (t .3)))
+        where
+          e : D .answer (offer a) s ≡ 0
+          e = A .answer a s (t .0) k (c .long) (omega (arith, c .right, c .long, ones-le (U .done s))) (t .1) (t .2)
+
+      -- so the raster order meets none
+      pub raster-taken : {s : S} → Started D U n addr s → ok (U .memory s) → answers D (map offer (raster n)) s ≡ replicate n 0
+      raster-taken {s} st k =
+          no-refusal (raster n) s k (counted-start st) (subst (Permitted n N (raster n)) (sym (st .empty)) (raster-permitted n N (L .earlier)))
+          ∙ ap (λ x. replicate x 0) (length-raster n)

@@ -1,0 +1,7 @@
+-- What the laws of steps give: of any order, of any run of a driver, and of a step made of parts.
+pub mod AnyOrder
+pub mod Count
+pub mod Driver
+pub mod Parts
+pub mod Raster
+pub mod Settled
