@@ -1,0 +1,61 @@
+-- Places of a plane by blocks: what lies in a block, and that a square put by its offset is a block put by its coordinates. Assumes nothing.
+use mathlib.Core.Path.{_≡_, sym, ap, ap₂, _∙_}
+use mathlib.Core.Bool.{_&&_}
+use mathlib.Core.List.{List}
+use Prim.Native.Nat.{ℕ, _+_, _*_, _-_, _/_, _%_, _<_, _≤_}
+use native.Mathlib.Nat.{div-add-mod', mod-lt, add-mul}
+use native.Mathlib.Omega.{arith}
+use lib.Arith.{digits-div, digits-mod}
+use lib.Dec.{T, eqb, ltb, leb, eqb→eq, eqb-refl, ltb→lt, lt→ltb, leb→le, le→leb}
+use Rattle.laws.proofs.Digits.{Placed, placed}
+use Rattle.laws.proofs.Patches.{patch-same}
+use Rattle.laws.proofs.Tests.{both-left, both-right, both-of, same-test}
+use Rattle.samples.specs.Reconstruct.{inSquare, putSquare}
+use Rattle.macroblock.specs.Square.{inBlock, putBlock}
+
+module _ (q s Y Z i : ℕ) where
+  pub block-of : i / s / q ≡ Y → i % s / q ≡ Z → T (inBlock q s Y Z i)
+  block-of a b = both-of (eqb (i / s / q) Y) (eqb (i % s / q) Z) (rw a (eqb-refl Y)) (rw b (eqb-refl Z))
+
+  module _ (t : T (inBlock q s Y Z i)) where
+    pub block-row : i / s / q ≡ Y
+    block-row = eqb→eq (i / s / q) Y (both-left (eqb (i / s / q) Y) (eqb (i % s / q) Z) t)
+
+    pub block-column : i % s / q ≡ Z
+    block-column = eqb→eq (i % s / q) Z (both-right (eqb (i / s / q) Y) (eqb (i % s / q) Z) t)
+
+    -- a place of a block, by its row and column there
+    pub place-is : i ≡ (Y * q + i / s % q) * s + (Z * q + i % s % q)
+    place-is =
+        sym (div-add-mod' i s)
+        ∙ ap₂ (λ y x. y * s + x) (sym (div-add-mod' (i / s) q) ∙ ap (λ y. y * q + i / s % q) block-row)
+        (sym (div-add-mod' (i % s) q) ∙ ap (λ x. x * q + i % s % q) block-column)
+
+-- ---- the square of side q from `off` on is the block in row Y and column Z
+module _ (q s Y Z off : ℕ) (some : 0 < q) (wide : Z * q + q ≤ s) (e : off ≡ Y * q * s + Z * q) where
+  square-place : (i : ℕ) → T (inSquare q off s i) → Placed q s Y Z ((i - off) / s) ((i - off) % s) i
+  square-place i t =
+      let b₁ = leb off i in let b₂ = ltb ((i - off) / s) q in let b₃ = ltb ((i - off) % s) q in
+      let low : off ≤ i = leb→le off i (both-left b₁ b₂ (both-left (b₁ && b₂) b₃ t)) in
+      let r : (i - off) / s < q = ltb→lt _ q (both-right b₁ b₂ (both-left (b₁ && b₂) b₃ t)) in
+      let c : (i - off) % s < q = ltb→lt _ q (both-right (b₁ && b₂) b₃ t) in
+      placed q s Y Z ((i - off) / s) ((i - off) % s) i r c wide (omega (arith, div-add-mod' (i - off) s, add-mul (Y * q) ((i - off) / s) s, e))
+
+  block-place : (i : ℕ) → T (inBlock q s Y Z i) → T (inSquare q off s i)
+  block-place i t =
+      let r : i / s % q < q = mod-lt (i / s) some in
+      let c : i % s % q < q = mod-lt (i % s) some in
+      let at : i ≡ off + (i / s % q * s + i % s % q) = place-is q s Y Z i t ∙ omega (arith, add-mul (Y * q) (i / s % q) s, e) in
+      let d : i - off ≡ i / s % q * s + i % s % q = omega arith in
+      let row : (i - off) / s ≡ i / s % q = ap (λ n. n / s) d ∙ digits-div (i / s % q) (omega arith) in
+      let column : (i - off) % s ≡ i % s % q = ap (λ n. n % s) d ∙ digits-mod (i / s % q) (omega arith) in
+      both-of (leb off i && ltb ((i - off) / s) q) (ltb ((i - off) % s) q)
+      (both-of (leb off i) (ltb ((i - off) / s) q) (le→leb off i (omega arith)) (lt→ltb _ q (omega (arith, row)))) (lt→ltb _ q (omega (arith, column)))
+
+  pub square-is-block : (i : ℕ) → inSquare q off s i ≡ inBlock q s Y Z i
+  square-is-block i = same-test (inSquare q off s i) (inBlock q s Y Z i) (λ t. let p = square-place i t in block-of q s Y Z i (p .Y-is) (p .Z-is)) (block-place i)
+
+  pub put-is-put : (u : ℕ → ℕ → ℕ) (l : List ℕ) → putSquare q off s u l ≡ putBlock q s Y Z u l
+  put-is-put u l =
+      patch-same (inSquare q off s) (inBlock q s Y Z) _ _ l square-is-block
+      (λ i t. let p = square-place i t in ap₂ u (sym (p .c-is)) (sym (p .r-is)))

@@ -1,0 +1,45 @@
+-- Rule 2 as facts: a square for which there is room lies in its plane, and so do its marked neighbours. Assumes nothing.
+use mathlib.Core.Path.{_≡_}
+use mathlib.Core.Bool.{Bool, true, not, _&&_, _||_}
+use Prim.Native.Nat.{ℕ, _+_, _*_, _-_, _<_}
+use borrow.Author.Tests.{leb-true, ltb-true}
+use lib.Dec.{ltb, leb}
+use Rattle.laws.proofs.Tests.{and-left, and-right, and-both, implied}
+use Rattle.macroblock.specs.Cut.{Side}
+use Rattle.macroblock.specs.Cut.Side.{A, B, C, D}
+use Rattle.macroblock.specs.Rules.{room}
+use Rattle.macroblock.specs.inner.Blocks.{Fits, Beside}
+
+pub record Roomy (q len s x y : ℕ) (marks : Side → Bool) : Type 0 where
+  pub fits : Fits q s y x len
+  pub beside : Beside q s y x (marks B) (marks A) (marks D) (marks C)
+
+pub roomy : (q len s x y : ℕ) (marks : Side → Bool) → 0 < q → room q len s x y marks ≡ true → Roomy q len s x y marks
+unfolding room
+roomy q len s x y marks some e =
+    let t₁ = leb s 4096 in let t₂ = leb (x * q + q) s in let t₃ = leb ((y * q + (q - 1)) * s + (x * q + q)) len in
+    let ta = not (marks A) || ltb 0 x in let tb = not (marks B) || ltb 0 y in
+    let tc = not (marks C) || (ltb 0 y && leb (x * q + q + q) s) in let td = not (marks D) || (ltb 0 x && ltb 0 y) in
+    let e₆ = and-left (t₁ && t₂ && t₃ && ta && tb && tc) td e in
+    let e₅ = and-left (t₁ && t₂ && t₃ && ta && tb) tc e₆ in
+    let e₄ = and-left (t₁ && t₂ && t₃ && ta) tb e₅ in
+    let e₃ = and-left (t₁ && t₂ && t₃) ta e₄ in
+    let e₂ = and-left (t₁ && t₂) t₃ e₃ in
+    record {
+      fits = record {
+        some = some;
+        short = leb-true s 4096 (and-left t₁ t₂ e₂);
+        wide = leb-true (x * q + q) s (and-right t₁ t₂ e₂);
+        within = leb-true ((y * q + (q - 1)) * s + (x * q + q)) len (and-right (t₁ && t₂) t₃ e₃);
+      };
+      beside = record {
+        on-above = λ h. ltb-true 0 y (implied (marks B) (ltb 0 y) (and-right (t₁ && t₂ && t₃ && ta) tb e₅) h);
+        on-left = λ h. ltb-true 0 x (implied (marks A) (ltb 0 x) (and-right (t₁ && t₂ && t₃) ta e₄) h);
+        on-corner = λ h.
+            let f = and-both (ltb 0 x) (ltb 0 y) (implied (marks D) _ (and-right (t₁ && t₂ && t₃ && ta && tb && tc) td e) h) in
+            (ltb-true 0 y (f .1), ltb-true 0 x (f .0));
+        on-right = λ h.
+            let f = and-both (ltb 0 y) (leb (x * q + q + q) s) (implied (marks C) _ (and-right (t₁ && t₂ && t₃ && ta && tb) tc e₆) h) in
+            (ltb-true 0 y (f .0), leb-true (x * q + q + q) s (f .1));
+      };
+    }

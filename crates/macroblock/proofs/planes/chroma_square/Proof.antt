@@ -1,0 +1,45 @@
+-- `macroblock::planes::chroma_square` meets its contract: the mode is not refused, and the sums are the definition's. Assumes nothing.
+use mathlib.Core.Path.{refl, _∙_}
+use Prim.Native.Nat.{_+_, _*_}
+use native.Mathlib.Omega.{arith}
+use Rattle.laws.specs.Steps.{upTo}
+use Rattle.samples.specs.IntraChroma.{predC}
+use Rattle.macroblock.specs.Cut.{marksOf, whole}
+use Rattle.macroblock.specs.Kinds.{chromaRule, residualIn}
+use Rattle.macroblock.specs.Square.{around}
+use Rattle.macroblock.proofs.Drawn.{drawn, part-is, whole-marked, whole-row, whole-column}
+use Rattle.macroblock.proofs.Scan.{scan-2}
+use borrow.Author.Needs.{needs}
+use Rattle.macroblock.proofs.planes.chroma_square.Statement.{statement}
+use Rattle.macroblock.proofs.planes.chroma_square.Tie as tie
+
+predict-chroma-requires : tie.Need-predict-chroma-requires
+predict-chroma-requires c κs = let u = c .before .before in ((u .pre .0 .0, u .pre .0 .1), u .pre .1 .0)
+
+put-pieces-requires : tie.Need-put-pieces-requires
+put-pieces-requires c κs =
+    let u = c .before .before .before .before .before in
+    ((u .pre .0 .0, scan-2, omega arith, search needs), (omega (arith, u .pre .1 .2), u .pre .1 .1))
+
+returns : tie.Need-returns
+unfolding upTo
+returns c =
+    let p = c .before .before in
+    let d = p .before .before .before in
+    let u = d .before .before .before in
+    let a = u .args in
+    part-is (whole 8) (chromaRule (a .mode) (a .numbers .now) (a .base)) (a .stride) (a .x) (a .y) 0 (a .y) (a .x) (marksOf (a .a) (a .b) (a .c) (a .d)) (a .plane .now) _
+    (whole-marked (a .a) (a .b) (a .c) (a .d)) (whole-row (a .y)) (whole-column (a .x))
+    (p .put-pieces .ensures
+    ∙ drawn 8 (a .stride) (a .y) (a .x) (predC (a .mode) (a .b) (a .a) (around 8 (a .stride) (a .y) (a .x) (a .plane .now) 8 (a .b) (a .a) (a .d) (a .c)))
+    (residualIn (a .numbers .now) (a .base)) (λ x y. y * 8 + x) (d .predict-chroma .result) (a .plane .now) (omega arith) (d .predict-chroma .ensures) (λ x y. refl))
+
+pub chroma-square-spec : {M : Type 1} → statement M
+chroma-square-spec =
+    tie.close
+    (tie.spec
+    predict-chroma-requires
+    (λ c. search needs)
+    put-pieces-requires
+    (λ c. search needs)
+    returns)

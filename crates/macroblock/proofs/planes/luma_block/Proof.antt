@@ -1,0 +1,91 @@
+-- `macroblock::planes::luma_block` meets its contract, kind by kind. Assumes nothing.
+use mathlib.Core.Path.{_≡_, sym, ap, _∙_, subst}
+use mathlib.Core.List.{List}
+use Prim.Native.Nat.{ℕ, _<_}
+use native.Mathlib.Omega.{arith}
+use Rattle.macroblock.specs.Cut.{marksOf}
+use Rattle.macroblock.specs.Kinds.{cutFor, lumaRule}
+use Rattle.macroblock.specs.Rules.{used}
+use Rattle.macroblock.specs.Square.{part}
+use Rattle.macroblock.specs.inner.Blocks.{modeFine}
+use Rattle.macroblock.proofs.ByKind.{other-kind}
+use borrow.Author.Needs.{needs}
+use Rattle.macroblock.proofs.planes.luma_block.Statement.{statement}
+use Rattle.macroblock.proofs.planes.luma_block.Tie as tie
+
+block-4x4-requires : tie.Need-block-4x4-requires
+block-4x4-requires c κs =
+    let u = c .before .before .before in
+    let a = u .args in
+    let e : a .kind ≡ 0 = omega arith in
+    let p = u .pre in
+    ((p .0 .0, p .0 .1, subst (λ n. a .k < used n) e (p .0 .2)), (subst (λ n. modeFine n (a .modes .now) (marksOf (a .a) (a .b) (a .c) (a .d)) (a .k) ≡ 0) e (p .1 .0), p .1 .1))
+
+block-8x8-requires : tie.Need-block-8x8-requires
+block-8x8-requires c κs =
+    let u = c .before .before .before .before in
+    let a = u .args in
+    let e : a .kind ≡ 1 = omega arith in
+    let p = u .pre in
+    ((p .0 .0, p .0 .1, subst (λ n. a .k < used n) e (p .0 .2)), (subst (λ n. modeFine n (a .modes .now) (marksOf (a .a) (a .b) (a .c) (a .d)) (a .k) ≡ 0) e (p .1 .0), p .1 .1))
+
+-- the one block of kind 2
+first : (k : ℕ) → k < 1 → k ≡ 0
+first k h = omega arith
+
+block-16x16-requires : tie.Need-block-16x16-requires
+block-16x16-requires c κs =
+    let d = c .before in
+    let u = d .before .before .before in
+    let a = u .args in
+    let p = u .pre in
+    let fine = modeFine 2 (a .modes .now) (marksOf (a .a) (a .b) (a .c) (a .d)) in (
+      (p .0 .0, p .0 .1),
+      (
+        other-kind (λ n. a .k < used n → modeFine n (a .modes .now) (marksOf (a .a) (a .b) (a .c) (a .d)) (a .k) ≡ 0 → fine 0 ≡ 0) (λ j l e. subst (λ k. fine k ≡ 0) (first (a .k) l) e)
+            (a .kind) (d .before .if1 .left) (d .if2 .left) (p .0 .2) (p .1 .0),
+        p .1 .1,
+      ),
+    )
+
+-- block k of a kind, rebuilt
+rebuilt : (u : tie.Start) → ℕ → ℕ → List ℕ
+rebuilt u n k = let a = u .args in part (cutFor n) (lumaRule n (a .modes .now) (a .numbers .now)) (a .stride) (a .x) (a .y) (marksOf (a .a) (a .b) (a .c) (a .d)) k (a .plane .now)
+
+returns : tie.Need-returns
+unfolding rebuilt
+returns c =
+    let u = c .before .before .before .before .before .before in
+    let e : 0 ≡ u .args .kind = omega arith in
+    c .before .before .block-4x4 .ensures ∙ ap (λ n. rebuilt u n (u .args .k)) e
+
+returns-2 : tie.Need-returns-2
+unfolding rebuilt
+returns-2 c =
+    let u = c .before .before .before .before .before .before .before in
+    let e : 1 ≡ u .args .kind = omega arith in
+    c .before .before .block-8x8 .ensures ∙ ap (λ n. rebuilt u n (u .args .k)) e
+
+returns-3 : tie.Need-returns-3
+unfolding rebuilt
+returns-3 c =
+    let b = c .before .before in
+    let d = b .before .before in
+    let u = d .before .before .before in
+    let k = u .args .k in
+    b .block-16x16 .ensures
+    ∙ other-kind (λ n. k < used n → rebuilt u 2 0 ≡ rebuilt u n k) (λ j l. ap (rebuilt u 2) (sym (first k l))) (u .args .kind) (d .before .if1 .left) (d .if2 .left) (u .pre .0 .2)
+
+pub luma-block-spec : {M : Type 1} → statement M
+luma-block-spec =
+    tie.close
+    (tie.spec
+    block-4x4-requires
+    block-8x8-requires
+    block-16x16-requires
+    (λ c. search needs)
+    returns
+    (λ c. search needs)
+    returns-2
+    (λ c. search needs)
+    returns-3)

@@ -1,0 +1,75 @@
+-- `macroblock::planes::luma_square` meets its contract. The invariant: the first k blocks are rebuilt. Assumes nothing.
+use mathlib.Core.Path.{_≡_, sym, ap, _∙_, subst}
+use Prim.Native.Nat.{_-_, _<_, _≤_}
+use native.Mathlib.Omega.{arith}
+use lib.ListN.{length}
+use Rattle.laws.specs.Steps.{upTo}
+use Rattle.laws.proofs.Steps.{steps-none, steps-more}
+use Rattle.macroblock.specs.Cut.{marksOf, blocks}
+use Rattle.macroblock.specs.Kinds.{cutFor, lumaRule}
+use Rattle.macroblock.specs.Rules.{used}
+use Rattle.macroblock.specs.Square.{part}
+use Rattle.macroblock.specs.inner.Blocks.{Fits}
+use Rattle.macroblock.proofs.ByKind.{used-is}
+use Rattle.macroblock.proofs.Locality.{length-steps}
+use borrow.Author.Needs.{needs}
+use Rattle.macroblock.proofs.planes.luma_square.Statement.{statement}
+use Rattle.macroblock.proofs.planes.luma_square.Tie as tie
+
+abbrev Inv-loop : tie.InvT-loop
+Inv-loop plane₀ stride x y a b c d kind modes numbers n k₀ plane k =
+    (k ≤ n) × (plane ≡ upTo (part (cutFor kind) (lumaRule kind modes numbers) stride x y (marksOf a b c d)) k plane₀)
+
+abbrev μ-loop : tie.MeasureT-loop
+μ-loop plane₀ stride x y a b c d kind modes numbers n k₀ plane k = n - k
+
+long : (c : tie.At-loop Inv-loop μ-loop) → length (c .loop .plane) ≡ length (c .before .before .before .args .plane .now)
+long c =
+    let a = c .before .before .before .args in
+    ap length (c .loop .inv .1) ∙ length-steps (cutFor (a .kind)) (lumaRule (a .kind) (a .modes .now) (a .numbers .now)) (a .stride) (a .x) (a .y) (marksOf (a .a) (a .b) (a .c) (a .d)) (c .loop .k) (a .plane .now)
+
+loop-holds : tie.Need-loop-holds Inv-loop μ-loop
+loop-holds c = (omega arith, steps-none _ _)
+
+luma-block-requires : tie.Need-luma-block-requires Inv-loop μ-loop
+luma-block-requires c κs =
+    let b = c .before .before in
+    let n = b .before in
+    let u = n .before .before in
+    let a = u .args in
+    let l : b .loop .k < used (a .kind) = omega (arith, n .used-modes .ensures) in
+    ((subst (Fits 16 (a .stride) (a .y) (a .x)) (sym (long b)) (u .pre .0 .0), u .pre .0 .1, l), (u .pre .1 .0 (b .loop .k) l, u .pre .1 .1))
+
+loop-again : tie.Need-loop-again Inv-loop μ-loop
+loop-again c =
+    let p = c .before .before in
+    let b = p .before .before .before in
+    let a = b .before .before .before .args in
+    (omega arith, steps-more _ (b .loop .k) (a .plane .now) (b .loop .plane) _ (b .loop .inv .1) (p .luma-block .ensures))
+
+same-length : tie.Need-same-length Inv-loop μ-loop
+same-length c = long (c .before)
+
+returns : tie.Need-returns Inv-loop μ-loop
+returns c =
+    let b = c .before in
+    let n = b .before in
+    let a = n .before .before .args in
+    let e : b .loop .k ≡ blocks (cutFor (a .kind)) = omega (arith, n .used-modes .ensures, used-is (a .kind)) in
+    b .loop .inv .1
+    ∙ ap (λ n. upTo (part (cutFor (a .kind)) (lumaRule (a .kind) (a .modes .now) (a .numbers .now)) (a .stride) (a .x) (a .y) (marksOf (a .a) (a .b) (a .c) (a .d))) n (a .plane .now)) e
+
+pub luma-square-spec : {M : Type 1} → statement M
+luma-square-spec =
+    tie.close
+    (tie.spec
+    Inv-loop
+    μ-loop
+    (λ c κs. search needs)
+    loop-holds
+    luma-block-requires
+    (λ c. search needs)
+    (λ c. search needs)
+    loop-again
+    same-length
+    returns)

@@ -1,0 +1,80 @@
+-- How a macroblock's square in one plane is cut into blocks, in which order these come, and who holds the samples beside each: clauses 6.4.3, 6.4.5,
+-- 6.4.7, 6.4.9, 6.4.11 and 6.4.12. One account of 4x4, 8x8, 16x16 and chroma blocks.
+use mathlib.Core.Bool.{Bool, true, false, cond, _&&_}
+use Prim.Native.Nat.{ℕ, _+_, _*_, _-_, _/_, _%_}
+use lib.Dec.{eqb, ltb, leb}
+use Rattle.samples.specs.Nnz.{blkIdx}
+
+-- 6.4.9: the neighbour macroblocks A, left, B, above, C, above and to the right, and D, above and to the left
+pub data Side : Type 0 where
+  A B C D : Side
+
+-- which of them are available
+abbrev pub marksOf : Bool → Bool → Bool → Bool → Side → Bool
+marksOf a b c d A = a
+marksOf a b c d B = b
+marksOf a b c d C = c
+marksOf a b c d D = d
+
+-- blocks of `side` by `side` samples, `across` of them in a row and in a column of the square; a block's rule reads `wide` samples above it
+pub record Cut : Type 0 where
+  pub side : ℕ
+  pub across : ℕ
+  pub wide : ℕ
+
+abbrev pub blocks : Cut → ℕ
+blocks c = c .across * c .across
+
+-- sixteen 4x4 blocks, four 8x8 blocks, and a square that is one block: 16x16 luma, 8x8 chroma
+abbrev pub four : Cut
+four = record { side = 4; across = 4; wide = 8 }
+
+abbrev pub eight : Cut
+eight = record { side = 8; across = 2; wide = 16 }
+
+abbrev pub whole : ℕ → Cut
+whole q = record { side = q; across = 1; wide = q }
+
+-- 6.4.3: block k stands in column scanX k and row scanY k of blocks, and blkIdx is its number from there. Four blocks are numbered by 6.4.5 and 6.4.7,
+-- row by row, which is the same
+unfoldable pub scanX : ℕ → ℕ
+scanX k = k / 4 % 2 * 2 + k % 4 % 2
+
+unfoldable pub scanY : ℕ → ℕ
+scanY k = k / 4 / 2 * 2 + k % 4 / 2
+
+-- who holds the samples on a side of a block: an earlier block of this macroblock, a neighbour macroblock, or nobody
+pub data Holder : Type 0 where
+  own : Holder
+  other : Side → Holder
+  nobody : Holder
+
+-- 6.4.12, Table 6-3, for m blocks across: the holder of the block in column i and row j, where both are one more than they are in the macroblock, so that
+-- -1 is 0. A block of this macroblock holds its samples already if it comes before block k
+abbrev pub holderAt : ℕ → ℕ → ℕ → ℕ → Holder
+holderAt m k i j =
+    cond (eqb j 0)
+    (cond (eqb i 0) (other D) (cond (leb i m) (other B) (other C)))
+    (cond (eqb i 0) (other A) (cond (leb i m && ltb (blkIdx (i - 1) (j - 1)) k) own nobody))
+
+-- 6.4.11: the block on each side of the one in column u and row v
+abbrev pub nextX : ℕ → Side → ℕ
+nextX u A = u
+nextX u B = u + 1
+nextX u C = u + 2
+nextX u D = u
+
+abbrev pub nextY : ℕ → Side → ℕ
+nextY v A = v + 1
+nextY v B = v
+nextY v C = v
+nextY v D = v
+
+abbrev pub heldBy : (Side → Bool) → Holder → Bool
+heldBy marks own = true
+heldBy marks (other d) = marks d
+heldBy marks nobody = false
+
+-- are the samples on a side of block k there, with m blocks across?
+unfoldable pub has : ℕ → (Side → Bool) → ℕ → Side → Bool
+has m marks k d = heldBy marks (holderAt m k (nextX (scanX k) d) (nextY (scanY k) d))

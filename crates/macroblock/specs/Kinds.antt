@@ -1,0 +1,65 @@
+-- The decoding of an intra macroblock by its kind: prediction by 8.3.1 (kind 0, 4x4), 8.3.2 (1, 8x8), 8.3.3 (2, 16x16) and 8.3.4 (chroma), residuals by 8.5.1,
+-- 8.5.2 and 8.5.4, and their sum by 8.5.14.
+use mathlib.Core.Bool.{Bool}
+use mathlib.Core.List.{List}
+use Prim.Native.Nat.{ℕ, zero, suc, _+_, _*_, _/_, _%_}
+use lib.IntN.{ℤ, pos, _+ℤ_}
+use lib.ListN.{getD}
+use Rattle.laws.specs.Range.{at}
+use Rattle.laws.specs.Table.{table}
+use Rattle.samples.specs.Clip.{Clip1}
+use Rattle.samples.specs.Intra16x16.{predL}
+use Rattle.samples.specs.IntraChroma.{predC}
+use Rattle.samples.specs.IntraNxN.{pred4x4L, pred8x8L}
+use Rattle.samples.specs.Inverse.{inverse4x4}
+use Rattle.samples.specs.Near.{Near}
+use Rattle.samples.specs.Nnz.{blkIdx}
+use Rattle.macroblock.specs.declared.Record.{Record}
+use Rattle.macroblock.specs.Cut.{Side, Cut, four, eight, whole}
+use Rattle.macroblock.specs.Square.{Rule, square}
+
+-- ---- residuals, from a record's numbers
+-- of coefficient block b: sixteen for luma in scan order, then four for Cb and four for Cr
+unfoldable pub residual4x4 : List ℤ → ℕ → ℕ → ℕ → ℤ
+residual4x4 numbers b x y = at (inverse4x4 (table 16 (λ i. at numbers (16 * b + i)))) (4 * y + x)
+
+-- of a larger block whose pieces are the coefficient blocks from b on
+abbrev pub residualIn : List ℤ → ℕ → ℕ → ℕ → ℤ
+residualIn numbers b x y = residual4x4 numbers (b + blkIdx (x / 4) (y / 4)) (x % 4) (y % 4)
+
+-- of luma block k, by kind. Kind 1 brings residuals that are already transformed
+abbrev pub residualL : ℕ → List ℤ → ℕ → ℕ → ℕ → ℤ
+residualL zero numbers k x y = residual4x4 numbers k x y
+residualL (suc zero) numbers k x y = at numbers (64 * k + (y * 8 + x))
+residualL (suc (suc _)) numbers k x y = residualIn numbers 0 x y
+
+-- ---- luma, by kind
+abbrev pub cutFor : ℕ → Cut
+cutFor zero = four
+cutFor (suc zero) = eight
+cutFor (suc (suc _)) = whole 16
+
+abbrev pub predFor : ℕ → ℕ → Bool → Bool → Bool → Near → ℕ → ℕ → ℕ
+predFor zero mode above left corner p = pred4x4L mode above left corner p
+predFor (suc zero) mode above left corner p = pred8x8L mode above left corner p
+predFor (suc (suc _)) mode above left corner p = predL mode above left p
+
+-- 8.5.14: u = Clip1( pred + r )
+abbrev pub lumaRule : ℕ → List ℕ → List ℤ → Rule
+lumaRule kind modes numbers k above left corner p x y =
+    Clip1 (pos (predFor kind (getD modes k 0) above left corner p x y) +ℤ residualL kind numbers k x y)
+
+-- ---- chroma, whose residuals are those of the coefficient blocks from b on
+abbrev pub chromaRule : ℕ → List ℤ → ℕ → Rule
+chromaRule mode numbers b k above left corner p x y = Clip1 (pos (predC mode above left p x y) +ℤ residualIn numbers b x y)
+
+-- ---- what is left of each plane, with stride s, where macroblock (x, y) is rebuilt from record r by the marks of its neighbours
+module _ (x y : ℕ) (marks : Side → Bool) (r : Record) (s : ℕ) where
+  abbrev pub lumaSquare : List ℕ → List ℕ
+  lumaSquare plane = square (cutFor (r .kind)) (lumaRule (r .kind) (r .modes) (r .numbers)) s x y marks plane
+
+  abbrev pub cbSquare : List ℕ → List ℕ
+  cbSquare plane = square (whole 8) (chromaRule (r .«chroma_mode») (r .numbers) 16) s x y marks plane
+
+  abbrev pub crSquare : List ℕ → List ℕ
+  crSquare plane = square (whole 8) (chromaRule (r .«chroma_mode») (r .numbers) 20) s x y marks plane

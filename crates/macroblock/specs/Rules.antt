@@ -1,0 +1,71 @@
+-- What a macroblock call is refused for: refusals 2, 6, 7 and 8 of docs/RULES.md, in its words.
+use mathlib.Core.Bool.{Bool, cond, not, _&&_, _||_}
+use mathlib.Core.List.{List, [], _∷_}
+use Prim.Native.Nat.{ℕ, zero, suc, _+_, _*_, _-_}
+use lib.Dec.{eqb, ltb, leb}
+use lib.ListN.{getD}
+use Rattle.laws.specs.Answer.{_unless_, answer}
+use Rattle.laws.specs.Table.{allBelow}
+use Rattle.samples.specs.Marks.{permittedNxN, permitted16x16, permittedChroma}
+use Rattle.samples.specs.Numbers.{allInRange}
+use Rattle.macroblock.specs.declared.Record.{Record}
+use Rattle.macroblock.specs.Cut.{Side, has}
+use Rattle.macroblock.specs.Cut.Side.{A, B, C, D}
+use Rattle.macroblock.specs.Kinds.{cutFor}
+
+-- 2: in a plane of `len` samples with stride s, at most 4096, lie the square of side q at (x, y) and each marked neighbour: A and D have a column of squares
+-- before it, B, C and D a row above it, and C a column after it
+unfoldable pub room : (q len s x y : ℕ) → (Side → Bool) → Bool
+room q len s x y marks =
+    leb s 4096
+    && leb (x * q + q) s
+    && leb ((y * q + (q - 1)) * s + (x * q + q)) len
+    && (not (marks A) || ltb 0 x)
+    && (not (marks B) || ltb 0 y)
+    && (not (marks C) || (ltb 0 y && leb (x * q + q + q) s))
+    && (not (marks D) || (ltb 0 x && ltb 0 y))
+
+-- the same of the three planes
+abbrev pub rooms : (x y lumaLen lumaStride cbLen cbStride crLen crStride : ℕ) → (Side → Bool) → Bool
+rooms x y lumaLen lumaStride cbLen cbStride crLen crStride marks =
+    room 16 lumaLen lumaStride x y marks && room 8 cbLen cbStride x y marks && room 8 crLen crStride x y marks
+
+-- 6: the kind is known, each mode that it uses is known, and each unused one is 0
+abbrev pub used : ℕ → ℕ
+used zero = 16
+used (suc zero) = 4
+used (suc (suc _)) = 1
+
+abbrev pub lastMode : ℕ → ℕ
+lastMode zero = 8
+lastMode (suc zero) = 8
+lastMode (suc (suc _)) = 3
+
+abbrev pub modeKnown : ℕ → List ℕ → ℕ → Bool
+modeKnown kind modes k = cond (ltb k (used kind)) (leb (getD modes k 0) (lastMode kind)) (eqb (getD modes k 0) 0)
+
+unfoldable pub known : Record → Bool
+known r = leb (r .kind) 2 && allBelow 16 (modeKnown (r .kind) (r .modes)) && leb (r .«chroma_mode») 3
+
+-- 7: each used mode is permitted where it stands, by the marks of whoever holds the samples above, left and at the corner
+abbrev pub permittedFor : ℕ → Bool → Bool → Bool → ℕ → Bool
+permittedFor zero = permittedNxN
+permittedFor (suc zero) = permittedNxN
+permittedFor (suc (suc _)) = permitted16x16
+
+abbrev pub permittedAt : ℕ → List ℕ → (Side → Bool) → ℕ → Bool
+permittedAt kind modes marks k =
+    let m = cutFor kind .across in
+    permittedFor kind (has m marks k B) (has m marks k A) (has m marks k D) (getD modes k 0)
+
+unfoldable pub permitted : (Side → Bool) → Record → Bool
+permitted marks r =
+    allBelow (used (r .kind)) (permittedAt (r .kind) (r .modes) marks) && permittedChroma (marks B) (marks A) (marks D) (r .«chroma_mode»)
+
+-- 8: every number is in range
+unfoldable pub numbersGood : Record → Bool
+numbersGood r = allInRange (r .numbers)
+
+-- the call's answer
+abbrev pub rebuildAnswer : (rooms : Bool) → (Side → Bool) → Record → ℕ
+rebuildAnswer rooms marks r = answer (2 unless rooms ∷ 6 unless known r ∷ 7 unless permitted marks r ∷ 8 unless numbersGood r ∷ [])

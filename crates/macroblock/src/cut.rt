@@ -1,0 +1,97 @@
+// Where the blocks of a macroblock stand (clause 6.4.3) and which of their sides are there (clauses 6.4.11 and 6.4.12).
+ghost use mathlib.Core.Path.{_≡_};
+ghost use mathlib.Core.Bool.{true, cond, _&&_};
+ghost use Prim.Native.Nat.{_+_, _*_, _-_, _≤_, _<_};
+ghost use lib.Dec.{eqb, ltb, leb};
+ghost use Rattle.samples.specs.Nnz.{blkIdx};
+ghost use Rattle.macroblock.specs.Cut.{marksOf, scanX, scanY};
+ghost use Rattle.macroblock.specs.Kinds.{cutFor};
+ghost use Rattle.macroblock.specs.inner.Blocks.{Scan, Marked};
+
+// LUMA_4X4_SCAN_XY as two tables: block k stands in this column and row of blocks.
+const LUMA_4X4_SCAN_X: [usize; 16] = [0, 1, 0, 1, 2, 3, 2, 3, 0, 1, 0, 1, 2, 3, 2, 3];
+
+const LUMA_4X4_SCAN_Y: [usize; 16] = [0, 0, 1, 1, 0, 0, 1, 1, 2, 2, 3, 3, 2, 2, 3, 3];
+
+// How many blocks of a kind's luma are in a row.
+pub(crate) fn across(kind: u8) -> usize
+    ensures { λ r. ⌜ r ≡ cutFor kind .across ⌝ }
+{
+    if kind == 0 {
+        4
+    } else if kind == 1 {
+        2
+    } else {
+        1
+    }
+}
+
+pub(crate) fn scan_x(k: usize) -> usize
+    requires { ⌜ k < 16 ⌝ }
+    ensures { λ r. ⌜ r ≡ scanX k ⌝ }
+{
+    LUMA_4X4_SCAN_X[k]
+}
+
+pub(crate) fn scan_y(k: usize) -> usize
+    requires { ⌜ k < 16 ⌝ }
+    ensures { λ r. ⌜ r ≡ scanY k ⌝ }
+{
+    LUMA_4X4_SCAN_Y[k]
+}
+
+// The block in column `x` and row `y`.
+fn blk_idx(x: usize, y: usize) -> usize
+    requires { ⌜ (x < 4) × (y < 4) ⌝ }
+    ensures { λ r. ⌜ r ≡ blkIdx x y ⌝ }
+{
+    x % 2 + y % 2 * 2 + x / 2 * 4 + y / 2 * 8
+}
+
+// Which sides of a block are there: above, left, the corner, and above and to the right.
+pub(crate) struct Marks {
+    pub above: bool,
+    pub left: bool,
+    pub corner: bool,
+    pub right: bool,
+}
+
+// The marks of block k of m across, from those of the neighbour macroblocks.
+pub(crate) fn marks_of(k: usize, m: usize, a: bool, b: bool, c: bool, d: bool) -> Marks
+    requires { ⌜ Scan m × (m ≤ 4) × (k < m * m) ⌝ }
+    ensures { λ r. ⌜ Marked m (marksOf a b c d) k (r .above) (r .left) (r .corner) (r .right) ⌝ }
+{
+    let u = scan_x(k);
+    let v = scan_y(k);
+    let above = choose(v == 0, b, true);
+    let left = choose(u == 0, a, true);
+    let corner = choose(v == 0, choose(u == 0, d, b), left);
+    let right = has_right(k, u, v, m, b, c);
+    Marks {
+        above,
+        left,
+        corner,
+        right,
+    }
+}
+
+// Whether the samples above and to the right of block k, in column u and row v, are there.
+fn has_right(k: usize, u: usize, v: usize, m: usize, b: bool, c: bool) -> bool
+    requires { ⌜ (u < m) × (v < m) × (m ≤ 4) ⌝ }
+    ensures { λ r. ⌜ r ≡ cond (eqb v 0) (cond (leb (u + 2) m) b c) (leb (u + 2) m && ltb (blkIdx (u + 1) (v - 1)) k) ⌝ }
+{
+    if v == 0 {
+        return choose(u + 2 <= m, b, c);
+    }
+    if u + 2 > m {
+        return false;
+    }
+    blk_idx(u + 1, v - 1) < k
+}
+
+// The first where the test holds, else the second.
+pub(crate) fn choose(test: bool, first: bool, second: bool) -> bool
+    ensures { λ r. ⌜ r ≡ cond test first second ⌝ }
+{
+    if test { first } else { second }
+}

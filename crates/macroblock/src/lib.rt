@@ -1,0 +1,122 @@
+// One macroblock in its three planes, from a record and the marks of its four neighbours (clauses 8.3 and 8.5).
+ghost use mathlib.Core.Path.{_≡_};
+ghost use lib.ListN.{length};
+ghost use Rattle.laws.specs.Answer.{answer, written};
+ghost use Rattle.macroblock.specs.Cut.{marksOf};
+ghost use Rattle.macroblock.specs.Kinds.{lumaSquare, cbSquare, crSquare};
+ghost use Rattle.macroblock.specs.Rules.{rooms, rebuildAnswer};
+use planes::chroma_square;
+use planes::luma_square;
+use rules::has_rooms;
+use rules::record_answer;
+
+mod beside; // the samples beside a block
+mod cut; // 6.4: where blocks stand and which of their sides are there
+mod planes; // the square of each plane, block by block
+mod predict; // 8.3: predictions
+mod put; // 8.5.14: sums in pieces of 4x4
+mod rules; // refusals 2, 6, 7 and 8
+
+// A macroblock: its kind, 0 for 4x4, 1 for 8x8 and 2 for 16x16, its luma modes, its chroma mode, and 256 numbers for luma, 64 for Cb and 64 for Cr.
+pub struct Record {
+    pub kind: u8,
+    pub modes: [u8; 16],
+    pub chroma_mode: u8,
+    pub numbers: [i32; 384],
+}
+
+// Rebuilds macroblock (x, y) of three planes, whose neighbours A, B, C and D have the marks a, b, c and d.
+pub fn rebuild(
+    x: u32,
+    y: u32,
+    luma: &mut [u8],
+    luma_stride: usize,
+    cb: &mut [u8],
+    cb_stride: usize,
+    cr: &mut [u8],
+    cr_stride: usize,
+    a: bool,
+    b: bool,
+    c: bool,
+    d: bool,
+    record: Record,
+) -> u32
+    ensures { λ r. ⌜ r ≡ rebuildAnswer (rooms x y (length (now (luma .entry))) «luma_stride» (length (now (cb .entry))) «cb_stride» (length (now (cr .entry))) «cr_stride» (marksOf a b c d)) (marksOf a b c d) «record» ⌝ }
+    ensures { λ r. ⌜ now (luma .exit) ≡ written r (now (luma .entry)) (lumaSquare x y (marksOf a b c d) «record» «luma_stride» (now (luma .entry))) ⌝ }
+    ensures { λ r. ⌜ now (cb .exit) ≡ written r (now (cb .entry)) (cbSquare x y (marksOf a b c d) «record» «cb_stride» (now (cb .entry))) ⌝ }
+    ensures { λ r. ⌜ now (cr .exit) ≡ written r (now (cr .entry)) (crSquare x y (marksOf a b c d) «record» «cr_stride» (now (cr .entry))) ⌝ }
+{
+    let modes = record.modes;
+    let numbers = record.numbers;
+    let x = x as usize;
+    let y = y as usize;
+    if !has_rooms(
+        x,
+        y,
+        luma.len(),
+        luma_stride,
+        cb.len(),
+        cb_stride,
+        cr.len(),
+        cr_stride,
+        a,
+        b,
+        c,
+        d,
+    ) {
+        return 2;
+    }
+    let answer = record_answer(
+        record.kind,
+        &modes,
+        record.chroma_mode,
+        &numbers,
+        a,
+        b,
+        c,
+        d,
+    );
+    if answer != 0 {
+        return answer;
+    }
+    luma_square(
+        luma,
+        luma_stride,
+        x,
+        y,
+        a,
+        b,
+        c,
+        d,
+        record.kind,
+        &modes,
+        &numbers,
+    );
+    chroma_square(
+        cb,
+        cb_stride,
+        x,
+        y,
+        a,
+        b,
+        c,
+        d,
+        record.chroma_mode,
+        &numbers,
+        16,
+    );
+    chroma_square(
+        cr,
+        cr_stride,
+        x,
+        y,
+        a,
+        b,
+        c,
+        d,
+        record.chroma_mode,
+        &numbers,
+        20,
+    );
+    0
+}

@@ -1,0 +1,114 @@
+// The predictions of blocks from the samples beside them in a plane (clauses 8.3.1 to 8.3.4).
+ghost use mathlib.Core.Path.{_≡_};
+ghost use lib.ListN.{length};
+ghost use Rattle.laws.specs.Table.{blockOf};
+ghost use Rattle.samples.specs.Intra16x16.{predL};
+ghost use Rattle.samples.specs.IntraChroma.{predC};
+ghost use Rattle.samples.specs.IntraNxN.{pred4x4L, pred8x8L};
+ghost use Rattle.samples.specs.Marks.{permittedNxN, permitted16x16, permittedChroma, modeAnswer};
+ghost use Rattle.macroblock.specs.Square.{around};
+ghost use Rattle.macroblock.specs.inner.Blocks.{Fits, Beside};
+use super::beside::above_of;
+use super::beside::corner_of;
+use super::beside::left_of;
+use super::cut::Marks;
+
+pub(crate) fn predict_4x4(
+    plane: &[u8],
+    stride: usize,
+    row: usize,
+    column: usize,
+    m: Marks,
+    mode: u8,
+) -> [u8; 16]
+    requires { ⌜ Fits 4 stride row column (length (now plane)) × Beside 4 stride row column (m .above) (m .left) (m .corner) (m .right) ⌝ }
+    requires { ⌜ modeAnswer 8 (permittedNxN (m .above) (m .left) (m .corner)) mode ≡ 0 ⌝ }
+    ensures { λ r. ⌜ r ≡ blockOf 4 (pred4x4L mode (m .above) (m .left) (m .corner) (around 4 stride row column (now (plane .entry)) 8 (m .above) (m .left) (m .corner) (m .right))) ⌝ }
+{
+    let mut top = [0u8; 8];
+    above_of(plane, stride, 4, row, column, m.above, m.right, &mut top);
+    let mut left = [0u8; 4];
+    left_of(plane, stride, 4, row, column, m.left, &mut left);
+    let corner = corner_of(plane, stride, 4, row, column, m.corner);
+    let p = samples::intra_nxn::intra4x4_pred(mode, m.above, m.left, m.corner, &top, &left, corner);
+    p.block
+}
+
+pub(crate) fn predict_8x8(
+    plane: &[u8],
+    stride: usize,
+    row: usize,
+    column: usize,
+    m: Marks,
+    mode: u8,
+) -> [u8; 64]
+    requires { ⌜ Fits 8 stride row column (length (now plane)) × Beside 8 stride row column (m .above) (m .left) (m .corner) (m .right) ⌝ }
+    requires { ⌜ modeAnswer 8 (permittedNxN (m .above) (m .left) (m .corner)) mode ≡ 0 ⌝ }
+    ensures { λ r. ⌜ r ≡ blockOf 8 (pred8x8L mode (m .above) (m .left) (m .corner) (around 8 stride row column (now (plane .entry)) 16 (m .above) (m .left) (m .corner) (m .right))) ⌝ }
+{
+    let mut top = [0u8; 16];
+    above_of(plane, stride, 8, row, column, m.above, m.right, &mut top);
+    let mut left = [0u8; 8];
+    left_of(plane, stride, 8, row, column, m.left, &mut left);
+    let corner = corner_of(plane, stride, 8, row, column, m.corner);
+    let p = samples::intra_nxn::intra8x8_pred(mode, m.above, m.left, m.corner, &top, &left, corner);
+    p.block
+}
+
+pub(crate) fn predict_16x16(
+    plane: &[u8],
+    stride: usize,
+    row: usize,
+    column: usize,
+    m: Marks,
+    mode: u8,
+) -> [u8; 256]
+    requires { ⌜ Fits 16 stride row column (length (now plane)) × Beside 16 stride row column (m .above) (m .left) (m .corner) (m .right) ⌝ }
+    requires { ⌜ modeAnswer 3 (permitted16x16 (m .above) (m .left) (m .corner)) mode ≡ 0 ⌝ }
+    ensures { λ r. ⌜ r ≡ blockOf 16 (predL mode (m .above) (m .left) (around 16 stride row column (now (plane .entry)) 16 (m .above) (m .left) (m .corner) (m .right))) ⌝ }
+{
+    let mut top = [0u8; 16];
+    above_of(plane, stride, 16, row, column, m.above, m.right, &mut top);
+    let mut left = [0u8; 16];
+    left_of(plane, stride, 16, row, column, m.left, &mut left);
+    let corner = corner_of(plane, stride, 16, row, column, m.corner);
+    let p = samples::intra_16x16::luma16x16_pred(
+        mode,
+        m.above,
+        m.left,
+        m.corner,
+        &top,
+        &left,
+        corner,
+    );
+    p.block
+}
+
+pub(crate) fn predict_chroma(
+    plane: &[u8],
+    stride: usize,
+    row: usize,
+    column: usize,
+    m: Marks,
+    mode: u8,
+) -> [u8; 64]
+    requires { ⌜ Fits 8 stride row column (length (now plane)) × Beside 8 stride row column (m .above) (m .left) (m .corner) (m .right) ⌝ }
+    requires { ⌜ modeAnswer 3 (permittedChroma (m .above) (m .left) (m .corner)) mode ≡ 0 ⌝ }
+    ensures { λ r. ⌜ r ≡ blockOf 8 (predC mode (m .above) (m .left) (around 8 stride row column (now (plane .entry)) 8 (m .above) (m .left) (m .corner) (m .right))) ⌝ }
+{
+    let mut top = [0u8; 8];
+    above_of(plane, stride, 8, row, column, m.above, m.right, &mut top);
+    let mut left = [0u8; 8];
+    left_of(plane, stride, 8, row, column, m.left, &mut left);
+    let corner = corner_of(plane, stride, 8, row, column, m.corner);
+    let p = samples::intra_chroma::chroma8x8_pred(
+        mode,
+        m.above,
+        m.left,
+        m.corner,
+        &top,
+        &left,
+        corner,
+    );
+    p.block
+}

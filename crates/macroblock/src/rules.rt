@@ -1,0 +1,183 @@
+// What a macroblock call is refused for: a square or a neighbour outside its plane (2), an unknown record (6), a mode that is not permitted (7) and a
+// number out of range (8).
+ghost use mathlib.Core.Path.{_≡_};
+ghost use mathlib.Core.Bool.{cond, not, _&&_, _||_};
+ghost use mathlib.Core.List.{[], _∷_};
+ghost use Prim.Native.Nat.{_<_, _≤_};
+ghost use lib.Dec.{eqb, ltb, leb};
+ghost use Rattle.laws.specs.Answer.{_unless_, answer};
+ghost use Rattle.laws.specs.Table.{allBelow};
+ghost use Rattle.samples.specs.Marks.{permittedChroma};
+ghost use Rattle.samples.specs.Numbers.{allInRange};
+ghost use Rattle.macroblock.specs.Cut.{marksOf};
+ghost use Rattle.macroblock.specs.Rules.{room, rooms, used, lastMode, modeKnown, permittedFor, permittedAt};
+use super::cut::across;
+use super::cut::marks_of;
+
+// Whether the square of side q at (x, y), and each marked neighbour, lies in a plane of `len` samples.
+fn has_room(
+    q: usize,
+    len: usize,
+    stride: usize,
+    x: usize,
+    y: usize,
+    a: bool,
+    b: bool,
+    c: bool,
+    d: bool,
+) -> bool
+    requires { ⌜ (0 < q) × (q ≤ 16) × (x < 4294967296) × (y < 4294967296) ⌝ }
+    ensures { λ r. ⌜ r ≡ room q len stride x y (marksOf a b c d) ⌝ }
+{
+    if stride > 4096 {
+        return false;
+    }
+    let end = x * q + q;
+    let square = both(end <= stride, (y * q + (q - 1)) * stride + end <= len);
+    let left = both(square, implies(a, x > 0));
+    let above = both(left, implies(b, y > 0));
+    let right = both(above, implies(c, both(y > 0, end + q <= stride)));
+    both(right, implies(d, both(x > 0, y > 0)))
+}
+
+// The same of the three planes.
+pub(crate) fn has_rooms(
+    x: usize,
+    y: usize,
+    luma_len: usize,
+    luma_stride: usize,
+    cb_len: usize,
+    cb_stride: usize,
+    cr_len: usize,
+    cr_stride: usize,
+    a: bool,
+    b: bool,
+    c: bool,
+    d: bool,
+) -> bool
+    requires { ⌜ (x < 4294967296) × (y < 4294967296) ⌝ }
+    ensures { λ r. ⌜ r ≡ rooms x y «luma_len» «luma_stride» «cb_len» «cb_stride» «cr_len» «cr_stride» (marksOf a b c d) ⌝ }
+{
+    let luma = has_room(16, luma_len, luma_stride, x, y, a, b, c, d);
+    let cb = has_room(8, cb_len, cb_stride, x, y, a, b, c, d);
+    let cr = has_room(8, cr_len, cr_stride, x, y, a, b, c, d);
+    both(both(luma, cb), cr)
+}
+
+fn both(p: bool, q: bool) -> bool
+    ensures { λ r. ⌜ r ≡ (p && q) ⌝ }
+{
+    if p { q } else { false }
+}
+
+fn implies(p: bool, q: bool) -> bool
+    ensures { λ r. ⌜ r ≡ (not p || q) ⌝ }
+{
+    if p { q } else { true }
+}
+
+// What a record is refused for at these marks, and 0 where it is not.
+pub(crate) fn record_answer(
+    kind: u8,
+    modes: &[u8; 16],
+    chroma_mode: u8,
+    numbers: &[i32; 384],
+    a: bool,
+    b: bool,
+    c: bool,
+    d: bool,
+) -> u32
+    ensures { λ r. ⌜ r ≡ answer (6 unless (leb kind 2 && allBelow 16 (modeKnown kind (now (modes .entry))) && leb «chroma_mode» 3)
+        ∷ 7 unless (allBelow (used kind) (permittedAt kind (now (modes .entry)) (marksOf a b c d)) && permittedChroma b a d «chroma_mode»)
+        ∷ 8 unless allInRange (now (numbers .entry)) ∷ []) ⌝ }
+{
+    if !is_known(kind, modes, chroma_mode) {
+        return 6;
+    }
+    if !is_permitted(kind, modes, chroma_mode, a, b, c, d) {
+        return 7;
+    }
+    if !samples::numbers::all_in_range(numbers) {
+        return 8;
+    }
+    0
+}
+
+// Whether the kind, each mode that it uses and the chroma mode are known, and each unused mode is 0.
+fn is_known(kind: u8, modes: &[u8; 16], chroma_mode: u8) -> bool
+    ensures { λ r. ⌜ r ≡ (leb kind 2 && allBelow 16 (modeKnown kind (now (modes .entry))) && leb «chroma_mode» 3) ⌝ }
+{
+    if kind > 2 {
+        return false;
+    }
+    let mut k = 0;
+    while k < 16 {
+        if !mode_known(kind, k, modes[k]) {
+            return false;
+        }
+        k += 1;
+    }
+    chroma_mode <= 3
+}
+
+fn mode_known(kind: u8, k: usize, mode: u8) -> bool
+    ensures { λ r. ⌜ r ≡ cond (ltb k (used kind)) (leb mode (lastMode kind)) (eqb mode 0) ⌝ }
+{
+    if k < used_modes(kind) {
+        return mode <= last_mode(kind);
+    }
+    mode == 0
+}
+
+// How many luma modes a kind uses: one for each of its blocks.
+pub(crate) fn used_modes(kind: u8) -> usize
+    ensures { λ r. ⌜ r ≡ used kind ⌝ }
+{
+    if kind == 0 {
+        16
+    } else if kind == 1 {
+        4
+    } else {
+        1
+    }
+}
+
+fn last_mode(kind: u8) -> u8
+    ensures { λ r. ⌜ r ≡ lastMode kind ⌝ }
+{
+    if kind < 2 { 8 } else { 3 }
+}
+
+// Whether each used mode is permitted where it stands.
+fn is_permitted(
+    kind: u8,
+    modes: &[u8; 16],
+    chroma_mode: u8,
+    a: bool,
+    b: bool,
+    c: bool,
+    d: bool,
+) -> bool
+    ensures { λ r. ⌜ r ≡ (allBelow (used kind) (permittedAt kind (now (modes .entry)) (marksOf a b c d)) && permittedChroma b a d «chroma_mode») ⌝ }
+{
+    let n = used_modes(kind);
+    let m = across(kind);
+    let mut k = 0;
+    while k < n {
+        let s = marks_of(k, m, a, b, c, d);
+        if !permits(kind, modes[k], s.above, s.left, s.corner) {
+            return false;
+        }
+        k += 1;
+    }
+    samples::marks::permits_chroma(chroma_mode, b, a, d)
+}
+
+fn permits(kind: u8, mode: u8, above: bool, left: bool, corner: bool) -> bool
+    ensures { λ r. ⌜ r ≡ permittedFor kind above left corner mode ⌝ }
+{
+    if kind < 2 {
+        return samples::marks::permits_nxn(mode, above, left, corner);
+    }
+    samples::marks::permits_16x16(mode, above, left, corner)
+}
