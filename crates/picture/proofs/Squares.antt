@@ -1,0 +1,102 @@
+-- A macroblock of the picture lies in its planes, and each available neighbour with it: so the macroblock call never answers 2. Assumes nothing.
+use mathlib.Core.Path.{_≡_, ap, _∙_}
+use mathlib.Core.Bool.{Bool, true}
+use mathlib.Core.List.{List}
+use Prim.Native.Nat.{ℕ, suc, _+_, _*_, _-_, _≤_, _<_}
+use native.Mathlib.Nat.{mul-le-mul-right, suc-mul}
+use native.Mathlib.Omega.{arith}
+use lib.Dec.{eqb, ltb}
+use lib.ListN.{getD}
+use borrow.Author.Tests.{ltb-true, le-leb}
+use Rattle.laws.specs.Answer.{answer}
+use Rattle.laws.proofs.Answers.{holds}
+use Rattle.laws.proofs.Tests.{and-left, and-both, and-of, implied-of}
+use Rattle.macroblock.specs.Cut.{Side, marksOf}
+use Rattle.macroblock.specs.Cut.Side.{A, B, C, D}
+use Rattle.macroblock.specs.Rules.{room, rooms, rebuildAnswer}
+use Rattle.macroblock.specs.Local.{Local, Promise}
+use Rattle.macroblock.proofs.Promised.{promised}
+use Rattle.picture.specs.Size.{Plane, side, address}
+use Rattle.picture.specs.Size.Plane.{luma, cb, cr}
+use Rattle.picture.specs.Neighbours.{inPicture, beside, available}
+use Rattle.picture.specs.Rebuild.{Call, marks, recordRules, squareIn}
+use Rattle.picture.specs.inner.Facts.{Marked}
+use Rattle.picture.specs.declared.neighbours.Marks.{Marks}
+use Rattle.picture.proofs.Sizes.{Fits, Stands}
+
+-- an available neighbour lies in the picture
+pub in-picture : (w : ℕ) (slices : List ℕ) (x y : ℕ) (k : Side) → available w slices x y k ≡ true → inPicture w x y k ≡ true
+in-picture w slices x y k t = and-left (inPicture w x y k) (eqb (getD slices (beside w x y k) 0) (getD slices (address w x y) 0)) t
+
+module _ (q w h s n x y : ℕ) (q-pos : 0 < q) (fits : Fits q w h s n) (place : Stands w h x y) where
+  below : suc y * q ≤ h * q
+  below = mul-le-mul-right q (place .in-h)
+
+  pub square-wide : x * q + q ≤ s
+  square-wide = let u : suc x * q ≤ w * q = mul-le-mul-right q (place .in-w) in omega (arith, fits .wide, suc-mul x q)
+
+  pub square-long : (y * q + (q - 1)) * s + (x * q + q) ≤ n
+  square-long =
+      let u : suc x * q ≤ w * q = mul-le-mul-right q (place .in-w) in
+      let m : (y * q + (q - 1)) * s ≤ (q * h - 1) * s = mul-le-mul-right s (omega (arith, below, suc-mul y q)) in
+      omega (arith, fits .long, suc-mul x q)
+
+  pub square-room : (slices : List ℕ) → room q n s x y (available w slices x y) ≡ true
+  unfolding room
+  square-room slices =
+      and-of (and-of (and-of (and-of (and-of (and-of
+      (le-leb s 4096 (fits .most))
+      (le-leb (x * q + q) s square-wide))
+      (le-leb ((y * q + (q - 1)) * s + (x * q + q)) n square-long))
+      (implied-of (m A) _ (there A)))
+      (implied-of (m B) _ (there B)))
+      (implied-of (m C) _ (λ t. let u = and-both (ltb 0 y) (ltb (x + 1) w) (there C t) in and-of (u .0) (le-leb (x * q + q + q) s (right (ltb-true (x + 1) w (u .1)))))))
+      (implied-of (m D) _ (λ t. let u = and-both (ltb 0 y) (ltb 0 x) (there D t) in and-of (u .1) (u .0)))
+    where
+      m : Side → Bool
+      m = available w slices x y
+
+      there : (k : Side) → m k ≡ true → inPicture w x y k ≡ true
+      there k t = in-picture w slices x y k t
+
+      right : x + 1 < w → x * q + q + q ≤ s
+      right l = let u : suc (suc x) * q ≤ w * q = mul-le-mul-right q (omega arith) in omega (arith, fits .wide, suc-mul (suc x) q, suc-mul x q)
+
+-- marks that are right are the picture's
+pub marks-are : (m : Marks) (w : ℕ) (slices : List ℕ) (x y : ℕ) → Marked m w slices x y → marksOf (m .a) (m .b) (m .c) (m .d) ≡ available w slices x y
+marks-are m w slices x y g = λ i k. each k i
+  where
+    each : (k : Side) → marksOf (m .a) (m .b) (m .c) (m .d) k ≡ available w slices x y k
+    each A = g .a-is
+    each B = g .b-is
+    each C = g .c-is
+    each D = g .d-is
+
+pub side-pos : (p : Plane) → 0 < side p
+side-pos luma = omega arith
+side-pos cb = omega arith
+side-pos cr = omega arith
+
+-- a call whose macroblock lies in the picture, over planes of so many bytes each
+module _ (c : Call) (bytes : Plane → ℕ) (fits : (p : Plane) → Fits (side p) (c .width) (c .height) (c .stride p) (bytes p)) (place : Stands (c .width) (c .height) (c .x) (c .y)) where
+  abbrev pub roomsOf : (Side → Bool) → Bool
+  roomsOf m = rooms (c .x) (c .y) (bytes luma) (c .stride luma) (bytes cb) (c .stride cb) (bytes cr) (c .stride cr) m
+
+  pub rooms-hold : roomsOf (marks c) ≡ true
+  rooms-hold = and-of (and-of (room-in luma) (room-in cb)) (room-in cr)
+    where
+      room-in : (p : Plane) → room (side p) (bytes p) (c .stride p) (c .x) (c .y) (marks c) ≡ true
+      room-in p = square-room (side p) (c .width) (c .height) (c .stride p) (bytes p) (c .x) (c .y) (side-pos p) (fits p) place (c .slices)
+
+  -- the macroblock call's answer is that of this call's rules 6, 7 and 8
+  pub by-macroblock : (m : Side → Bool) {r : ℕ} → m ≡ marks c → r ≡ rebuildAnswer (roomsOf m) m (c .mb) → r ≡ answer (recordRules c)
+  by-macroblock m {r} e f = f ∙ ap (λ n. rebuildAnswer (roomsOf n) n (c .mb)) e ∙ holds 2 (recordRules c) rooms-hold
+
+  -- and its promise holds in each plane
+  kept-promise : Promise (c .x) (c .y) (bytes luma) (c .stride luma) (bytes cb) (c .stride cb) (bytes cr) (c .stride cr) (marks c) (c .mb)
+  kept-promise = promised (c .x) (c .y) (bytes luma) (c .stride luma) (bytes cb) (c .stride cb) (bytes cr) (c .stride cr) (marks c) (c .mb) rooms-hold
+
+  pub square-local : (p : Plane) → Local (bytes p) (side p) (c .stride p) (c .x) (c .y) (marks c) (squareIn c p)
+  square-local luma = kept-promise .luma
+  square-local cb = kept-promise .cb
+  square-local cr = kept-promise .cr

@@ -1,0 +1,73 @@
+-- What demand 3 speaks of: a picture and its records, decoding by the standard, and runs of calls in any order.
+use mathlib.Core.Path.{_≡_}
+use mathlib.Core.Bool.{true}
+use mathlib.Core.List.{List, [], _∷_}
+use Prim.Native.Nat.{ℕ, _/_, _%_, _<_}
+use lib.Dec.{T}
+use lib.ListN.{getD, length, replicate}
+use Rattle.laws.specs.Answer.{written}
+use Rattle.laws.specs.Steps.{upTo}
+use Rattle.order.specs.Driver.{Driver, after, play}
+use Rattle.macroblock.specs.Square.{inBlock}
+use Rattle.macroblock.specs.declared.Record.{Record}
+use Rattle.picture.specs.Size.{Plane, side, total, planeOk}
+use Rattle.picture.specs.Progress.{begun, startAnswer}
+use Rattle.picture.specs.Rebuild.{Call, Lent, here, answerTo, squareIn, rebuilt}
+
+-- ---- what is fixed: a picture's size, its strides, its slice map, and a record for each macroblock
+pub record Picture : Type 0 where
+  pub width : ℕ
+  pub height : ℕ
+  pub stride : Plane → ℕ
+  pub slices : List ℕ
+  pub records : ℕ → Record
+
+abbrev pub totalOf : Picture → ℕ
+totalOf g = total (g .width) (g .height)
+
+-- macroblock a, offered with its own record
+abbrev pub offer : Picture → ℕ → Call
+offer g a = record { width = g .width; height = g .height; x = a % g .width; y = a / g .width; stride = g .stride; slices = g .slices; mb = g .records a }
+
+-- what is lent is as large as the picture asks, and starting answers 0
+pub record Lends (g : Picture) (s : Lent) : Type 0 where
+  pub starts : startAnswer (g .width) (g .height) (length (s .done)) ≡ 0
+  pub planes : (p : Plane) → planeOk (side p) (g .width) (g .height) (g .stride p) (length (s .planes p)) ≡ true
+  pub slices : length (g .slices) ≡ totalOf g
+
+-- ---- decoding by the standard: the macroblocks in raster order, each from its record and the planes as they stand. It knows no map and no refusal
+abbrev pub Planes : Type 0
+Planes = Plane → List ℕ
+
+abbrev pub decoded : Picture → Planes → Planes
+decoded g planes = upTo (λ a now p. squareIn (offer g a) p (now p)) (totalOf g) planes
+
+-- a place is a plane and an index; those of macroblock a, and those of the picture: padding is every other one
+abbrev pub Place : Type 0
+Place = Plane × ℕ
+
+abbrev pub at : Planes → Place → ℕ
+at planes i = getD (planes (i .0)) (i .1) 0
+
+abbrev pub Region : Picture → ℕ → Place → Type 0
+Region g a i = T (inBlock (side (i .0)) (g .stride (i .0)) (a / g .width) (a % g .width) (i .1))
+
+abbrev pub InPicture : Picture → Place → Type 0
+InPicture g i = (a : ℕ) × (a < totalOf g) × Region g a i
+
+-- ---- a run: the picture is started, and then calls come, with any arguments at all; what each answers and leaves is what `rebuild` promises
+abbrev pub driver : Driver Lent Call
+driver = record { answer = answerTo; taken = rebuilt }
+
+abbrev pub started : Picture → Lent → Lent
+started g s =
+    let r = startAnswer (g .width) (g .height) (length (s .done)) in
+    record { planes = s .planes; done = written r (s .done) (replicate (length (s .done)) 0); progress = written r (s .progress) begun }
+
+abbrev pub run : Picture → List Call → Lent → Lent
+run g cs s = play driver cs (started g s)
+
+-- each call that is accepted carries what is fixed, and its macroblock's own record
+abbrev pub Own : Picture → List Call → Lent → Type 0
+Own g [] s = Unit {0}
+Own g (c ∷ cs) s = (answerTo c s ≡ 0 → c ≡ offer g (here c)) × Own g cs (after driver c s)

@@ -1,0 +1,2 @@
+-- What only private functions' contracts speak of.
+pub mod Facts
