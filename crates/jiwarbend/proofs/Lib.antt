@@ -1,0 +1,2 @@
+-- The laws that the exports' proofs share.
+pub mod Exported

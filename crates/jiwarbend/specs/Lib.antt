@@ -1,0 +1,3 @@
+-- The definitions that the exports' contracts cite.
+pub mod Exports
+pub mod Pictures

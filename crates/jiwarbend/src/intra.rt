@@ -1,0 +1,168 @@
+// Intra prediction from samples that are handed as lists (clause 8.3).
+ghost use mathlib.Core.Path.{_≡_};
+ghost use mathlib.Core.List.{[], _∷_};
+ghost use lib.Dec.{leb};
+ghost use Rattle.laws.specs.Answer.{_unless_, answer, written};
+ghost use Rattle.laws.specs.Table.{blockOf};
+ghost use Rattle.samples.specs.Intra16x16.{predL};
+ghost use Rattle.samples.specs.IntraChroma.{predC};
+ghost use Rattle.samples.specs.IntraNxN.{pred4x4L, pred8x8L};
+ghost use Rattle.samples.specs.Marks.{permittedNxN, permitted16x16, permittedChroma};
+ghost use Rattle.samples.specs.Near.{near};
+ghost use Rattle.jiwarbend.specs.Exports.{_has_};
+
+#[no_mangle]
+pub extern "C" fn jiwarbend_intra4x4_pred(
+    mode: u8,
+    avail_top: bool,
+    avail_left: bool,
+    avail_corner: bool,
+    top: &[u8],
+    left: &[u8],
+    corner: u8,
+    out: &mut [u8],
+) -> u32
+    ensures { λ r. ⌜ r ≡ answer (2 unless now (top .entry) has 8 ∷ 2 unless now (left .entry) has 4 ∷ 2 unless now (out .entry) has 16 ∷ 6 unless leb mode 8 ∷ 7 unless permittedNxN «avail_top» «avail_left» «avail_corner» mode ∷ []) ⌝ }
+    ensures { λ r. ⌜ now (out .exit) ≡ written r (now (out .entry)) (blockOf 4 (pred4x4L mode «avail_top» «avail_left» «avail_corner» (near (now (top .entry)) (now (left .entry)) corner))) ⌝ }
+{
+    if top.len() != 8 {
+        return 2;
+    }
+    if left.len() != 4 {
+        return 2;
+    }
+    if out.len() != 16 {
+        return 2;
+    }
+    let above = crate::lists::bytes8(top);
+    let beside = crate::lists::bytes4(left);
+    let r = samples::intra_nxn::intra4x4_pred(
+        mode,
+        avail_top,
+        avail_left,
+        avail_corner,
+        &above,
+        &beside,
+        corner,
+    );
+    let block = r.block;
+    crate::lists::leave(out, r.answer, &block);
+    r.answer
+}
+
+#[no_mangle]
+pub extern "C" fn jiwarbend_intra8x8_pred(
+    mode: u8,
+    avail_top: bool,
+    avail_left: bool,
+    avail_corner: bool,
+    top: &[u8],
+    left: &[u8],
+    corner: u8,
+    out: &mut [u8],
+) -> u32
+    ensures { λ r. ⌜ r ≡ answer (2 unless now (top .entry) has 16 ∷ 2 unless now (left .entry) has 8 ∷ 2 unless now (out .entry) has 64 ∷ 6 unless leb mode 8 ∷ 7 unless permittedNxN «avail_top» «avail_left» «avail_corner» mode ∷ []) ⌝ }
+    ensures { λ r. ⌜ now (out .exit) ≡ written r (now (out .entry)) (blockOf 8 (pred8x8L mode «avail_top» «avail_left» «avail_corner» (near (now (top .entry)) (now (left .entry)) corner))) ⌝ }
+{
+    if top.len() != 16 {
+        return 2;
+    }
+    if left.len() != 8 {
+        return 2;
+    }
+    if out.len() != 64 {
+        return 2;
+    }
+    let above = crate::lists::bytes16(top);
+    let beside = crate::lists::bytes8(left);
+    let r = samples::intra_nxn::intra8x8_pred(
+        mode,
+        avail_top,
+        avail_left,
+        avail_corner,
+        &above,
+        &beside,
+        corner,
+    );
+    let block = r.block;
+    crate::lists::leave(out, r.answer, &block);
+    r.answer
+}
+
+#[no_mangle]
+pub extern "C" fn jiwarbend_luma16x16_pred(
+    mode: u8,
+    avail_top: bool,
+    avail_left: bool,
+    avail_corner: bool,
+    top: &[u8],
+    left: &[u8],
+    corner: u8,
+    out: &mut [u8],
+) -> u32
+    ensures { λ r. ⌜ r ≡ answer (2 unless now (top .entry) has 16 ∷ 2 unless now (left .entry) has 16 ∷ 2 unless now (out .entry) has 256 ∷ 6 unless leb mode 3 ∷ 7 unless permitted16x16 «avail_top» «avail_left» «avail_corner» mode ∷ []) ⌝ }
+    ensures { λ r. ⌜ now (out .exit) ≡ written r (now (out .entry)) (blockOf 16 (predL mode «avail_top» «avail_left» (near (now (top .entry)) (now (left .entry)) corner))) ⌝ }
+{
+    if top.len() != 16 {
+        return 2;
+    }
+    if left.len() != 16 {
+        return 2;
+    }
+    if out.len() != 256 {
+        return 2;
+    }
+    let above = crate::lists::bytes16(top);
+    let beside = crate::lists::bytes16(left);
+    let r = samples::intra_16x16::luma16x16_pred(
+        mode,
+        avail_top,
+        avail_left,
+        avail_corner,
+        &above,
+        &beside,
+        corner,
+    );
+    let block = r.block;
+    crate::lists::leave(out, r.answer, &block);
+    r.answer
+}
+
+#[no_mangle]
+pub extern "C" fn jiwarbend_chroma8x8_pred(
+    mode: u8,
+    avail_top: bool,
+    avail_left: bool,
+    avail_corner: bool,
+    top: &[u8],
+    left: &[u8],
+    corner: u8,
+    out: &mut [u8],
+) -> u32
+    ensures { λ r. ⌜ r ≡ answer (2 unless now (top .entry) has 8 ∷ 2 unless now (left .entry) has 8 ∷ 2 unless now (out .entry) has 64 ∷ 6 unless leb mode 3 ∷ 7 unless permittedChroma «avail_top» «avail_left» «avail_corner» mode ∷ []) ⌝ }
+    ensures { λ r. ⌜ now (out .exit) ≡ written r (now (out .entry)) (blockOf 8 (predC mode «avail_top» «avail_left» (near (now (top .entry)) (now (left .entry)) corner))) ⌝ }
+{
+    if top.len() != 8 {
+        return 2;
+    }
+    if left.len() != 8 {
+        return 2;
+    }
+    if out.len() != 64 {
+        return 2;
+    }
+    let above = crate::lists::bytes8(top);
+    let beside = crate::lists::bytes8(left);
+    let r = samples::intra_chroma::chroma8x8_pred(
+        mode,
+        avail_top,
+        avail_left,
+        avail_corner,
+        &above,
+        &beside,
+        corner,
+    );
+    let block = r.block;
+    crate::lists::leave(out, r.answer, &block);
+    r.answer
+}

@@ -1,0 +1,109 @@
+// Whole pictures, macroblock by macroblock. C's progress record is its two numbers, one after the other.
+ghost use mathlib.Core.Path.{_≡_};
+ghost use lib.ListN.{length, replicate};
+ghost use Rattle.laws.specs.Answer.{written};
+ghost use Rattle.picture.specs.Progress.{begun, startAnswer};
+ghost use Rattle.picture.specs.Rebuild.{call, lent};
+ghost use Rattle.picture.specs.Size.{sizeOk};
+ghost use Rattle.jiwarbend.specs.Pictures.{progressOf, recordOf, Rebuilds};
+use macroblock::Record;
+use picture::Progress;
+
+#[no_mangle]
+pub extern "C" fn jiwarbend_start(w: u32, h: u32, done: &mut [u8], progress: &mut [u32; 2]) -> u32
+    ensures { λ r. ⌜ r ≡ startAnswer w h (length (now (done .entry))) ⌝ }
+    ensures { λ r. ⌜ progressOf (now (progress .exit)) ≡ written r (progressOf (now (progress .entry))) begun ⌝ }
+    ensures { λ r. ⌜ now (done .exit) ≡ written r (now (done .entry)) (replicate (length (now (done .entry))) 0) ⌝ }
+{
+    let before = Progress {
+        count: progress[0],
+        last: progress[1],
+    };
+    let s = picture::start_core(w, h, done, before);
+    let after = s.progress;
+    let both = [after.count, after.last];
+    *progress = both;
+    s.answer
+}
+
+#[no_mangle]
+pub extern "C" fn jiwarbend_rebuild(
+    w: u32,
+    h: u32,
+    x: u32,
+    y: u32,
+    luma: &mut [u8],
+    luma_stride: usize,
+    cb: &mut [u8],
+    cb_stride: usize,
+    cr: &mut [u8],
+    cr_stride: usize,
+    done: &mut [u8],
+    slices: &[u16],
+    progress: &mut [u32; 2],
+    kind: u8,
+    modes: &[u8],
+    chroma_mode: u8,
+    numbers: &[i32],
+) -> u32
+    ensures { λ r. ⌜ Rebuilds (call w h x y «luma_stride» «cb_stride» «cr_stride» (now (slices .entry)) (recordOf kind (now (modes .entry)) «chroma_mode» (now (numbers .entry))))
+        (lent (now (luma .entry)) (now (cb .entry)) (now (cr .entry)) (now (done .entry)) (progressOf (now (progress .entry))))
+        r (lent (now (luma .exit)) (now (cb .exit)) (now (cr .exit)) (now (done .exit)) (progressOf (now (progress .exit)))) ⌝ }
+{
+    if !sized(w, h) {
+        return 1;
+    }
+    if modes.len() != 16 {
+        return 2;
+    }
+    if numbers.len() != 384 {
+        return 2;
+    }
+    let before = Progress {
+        count: progress[0],
+        last: progress[1],
+    };
+    let luma_modes = crate::lists::bytes16(modes);
+    let all = crate::lists::numbers384(numbers);
+    let record = Record {
+        kind,
+        modes: luma_modes,
+        chroma_mode,
+        numbers: all,
+    };
+    let s = picture::rebuild_core(
+        w,
+        h,
+        x,
+        y,
+        luma,
+        luma_stride,
+        cb,
+        cb_stride,
+        cr,
+        cr_stride,
+        done,
+        slices,
+        before,
+        record,
+    );
+    let after = s.progress;
+    let both = [after.count, after.last];
+    *progress = both;
+    s.answer
+}
+
+fn sized(w: u32, h: u32) -> bool
+    ensures { λ r. ⌜ r ≡ sizeOk w h ⌝ }
+{
+    if w < 1 {
+        return false;
+    }
+    if w > 120 {
+        return false;
+    }
+    if h < 1 {
+        return false;
+    }
+    h <= 68
+}

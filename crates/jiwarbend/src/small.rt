@@ -1,0 +1,105 @@
+// The routines that never refuse a value.
+ghost use mathlib.Core.Path.{_≡_};
+ghost use mathlib.Core.List.{[], _∷_};
+ghost use lib.IntN.{pos};
+ghost use Rattle.laws.specs.Answer.{_unless_, answer, written};
+ghost use Rattle.samples.specs.Clip.{Clip1};
+ghost use Rattle.samples.specs.Marks.{modeSet, permittedNxN, permitted16x16, permittedChroma};
+ghost use Rattle.samples.specs.Nnz.{nC, inRaster};
+ghost use Rattle.samples.specs.Qp.{QPc};
+ghost use Rattle.jiwarbend.specs.Exports.{_has_, neighbor};
+
+#[no_mangle]
+pub extern "C" fn jiwarbend_clip_u8(v: i32) -> u8
+    ensures { λ r. ⌜ r ≡ Clip1 v ⌝ }
+{
+    samples::clip::clip_u8(v)
+}
+
+#[no_mangle]
+pub extern "C" fn jiwarbend_chroma_qp(qp: u8) -> u8
+    ensures { λ r. ⌜ r ≡ QPc qp ⌝ }
+{
+    let c = samples::qp::chroma_qp(samples::qp::LumaQp(qp));
+    c.0
+}
+
+// A number of coefficients where there is such a block.
+fn neighbor_of(there: bool, n: u8) -> samples::nnz::Neighbor
+    ensures { λ r. ⌜ r ≡ neighbor «there» n ⌝ }
+{
+    if there {
+        return samples::nnz::Neighbor::Count(n);
+    }
+    samples::nnz::Neighbor::Absent
+}
+
+#[no_mangle]
+pub extern "C" fn jiwarbend_nc_from_neighbors(has_a: bool, a: u8, has_b: bool, b: u8) -> i32
+    ensures { λ r. ⌜ r ≡ pos (nC (neighbor «has_a» a) (neighbor «has_b» b)) ⌝ }
+{
+    let left = neighbor_of(has_a, a);
+    let above = neighbor_of(has_b, b);
+    samples::nnz::nc_from_neighbors(left, above)
+}
+
+#[no_mangle]
+pub extern "C" fn jiwarbend_nnz_raster_from_z(n: &[u8], out: &mut [u8]) -> u32
+    ensures { λ r. ⌜ r ≡ answer (2 unless now (n .entry) has 24 ∷ 2 unless now (out .entry) has 24 ∷ []) ⌝ }
+    ensures { λ r. ⌜ now (out .exit) ≡ written r (now (out .entry)) (inRaster (now (n .entry))) ⌝ }
+{
+    if n.len() != 24 {
+        return 2;
+    }
+    if out.len() != 24 {
+        return 2;
+    }
+    let z = crate::lists::bytes24(n);
+    let raster = samples::nnz::nnz_raster_from_z(&z);
+    crate::lists::leave(out, 0, &raster);
+    0
+}
+
+#[no_mangle]
+pub extern "C" fn jiwarbend_permitted_4x4(
+    avail_top: bool,
+    avail_left: bool,
+    avail_corner: bool,
+) -> u16
+    ensures { λ r. ⌜ r ≡ modeSet 9 (permittedNxN «avail_top» «avail_left» «avail_corner») ⌝ }
+{
+    samples::marks::permitted_4x4(avail_top, avail_left, avail_corner)
+}
+
+#[no_mangle]
+pub extern "C" fn jiwarbend_permitted_8x8(
+    avail_top: bool,
+    avail_left: bool,
+    avail_corner: bool,
+) -> u16
+    ensures { λ r. ⌜ r ≡ modeSet 9 (permittedNxN «avail_top» «avail_left» «avail_corner») ⌝ }
+{
+    samples::marks::permitted_8x8(avail_top, avail_left, avail_corner)
+}
+
+#[no_mangle]
+pub extern "C" fn jiwarbend_permitted_16x16(
+    avail_top: bool,
+    avail_left: bool,
+    avail_corner: bool,
+) -> u16
+    ensures { λ r. ⌜ r ≡ modeSet 4 (permitted16x16 «avail_top» «avail_left» «avail_corner») ⌝ }
+{
+    samples::marks::permitted_16x16(avail_top, avail_left, avail_corner)
+}
+
+#[no_mangle]
+pub extern "C" fn jiwarbend_permitted_chroma(
+    avail_top: bool,
+    avail_left: bool,
+    avail_corner: bool,
+) -> u16
+    ensures { λ r. ⌜ r ≡ modeSet 4 (permittedChroma «avail_top» «avail_left» «avail_corner») ⌝ }
+{
+    samples::marks::permitted_chroma(avail_top, avail_left, avail_corner)
+}

@@ -1,0 +1,142 @@
+/* Jiwarbend: H.264 intra pictures (8-bit, 4:2:0, progressive), rebuilt macroblock by macroblock and in any order.
+
+   Every function takes any numbers and lists of any length, and ends. One that can refuse answers 0, or the smallest number that applies:
+
+     1  the picture's width is not 1..120 macroblocks, or its height not 1..68
+     2  a stride, plane, map, list or count breaks the rules below, or a block's rows leave its buffer
+     3  the macroblock lies outside the picture
+     4  the macroblock is done
+     5  an available neighbour macroblock is not done: offer it again later
+     6  the kind or a mode is unknown, or an unused mode is not 0
+     7  a used mode needs samples that are not available where it stands
+     8  a number lies outside -32768..32767
+
+   A refused call writes nothing. A list is a pointer and the number of its elements; the pointer is not null, also where the number is 0,
+   and has the alignment of its element. What a call writes overlaps nothing else that the same call is lent. */
+#ifndef JIWARBEND_H
+#define JIWARBEND_H
+
+#include <stdbool.h>
+#include <stddef.h>
+#include <stdint.h>
+
+#ifdef __cplusplus
+extern "C" {
+#endif
+
+enum jiwarbend_answer {
+    JIWARBEND_OK = 0,
+    JIWARBEND_SIZE = 1,
+    JIWARBEND_ROOM = 2,
+    JIWARBEND_PLACE = 3,
+    JIWARBEND_DONE = 4,
+    JIWARBEND_NOT_READY = 5,
+    JIWARBEND_UNKNOWN = 6,
+    JIWARBEND_NOT_PERMITTED = 7,
+    JIWARBEND_RANGE = 8
+};
+
+/* ---- pictures */
+
+/* How far a picture has come: the number of accepted macroblocks and the address, y * w + x, of the last one. */
+struct jiwarbend_progress {
+    uint32_t count, last;
+};
+
+/* Starts a picture of w by h macroblocks: 0 over the done map, which has w * h bytes, and over the progress. Answers 0, 1, or 2 for the
+   map's length. */
+uint32_t jiwarbend_start(uint32_t w, uint32_t h, uint8_t *done, size_t done_len, struct jiwarbend_progress *progress);
+
+/* Rebuilds the macroblock in column x and row y. Accepted, its samples stand in the three planes, its byte of the done map is 1, and the
+   progress has its address and counts one more. When all have been accepted, each with its own record and in any order, the planes hold
+   what decoding in raster order by ITU-T H.264 gives; bytes between and after the rows are never written.
+
+   luma, cb, cr   16w by 16h, 8w by 8h and 8w by 8h samples. A stride is at least the width and at most 4096; a plane has at least
+                  (height - 1) * stride + width bytes.
+   done           w * h bytes; 1 is done, anything else undone.
+   slices         w * h slice numbers. A neighbour is available where it lies in the picture and has the same number.
+   progress       its count is at most w * h.
+   kind           0 for 4x4, 1 for 8x8, 2 for 16x16 luma prediction.
+   modes          16 luma modes: kind 0 uses all, in scan order, kind 1 the first four, kind 2 the first; the others are 0.
+   chroma_mode    0 DC, 1 horizontal, 2 vertical, 3 plane.
+   numbers        384: luma 256, Cb 64, Cr 64. Luma of kinds 0 and 2: sixteen blocks of 16 dequantised coefficients in scan order; of kind
+                  1: four blocks of 64 residual samples. Chroma: four blocks of 16 coefficients each. All in raster order. */
+uint32_t jiwarbend_rebuild(uint32_t w, uint32_t h, uint32_t x, uint32_t y,
+    uint8_t *luma, size_t luma_len, size_t luma_stride, uint8_t *cb, size_t cb_len, size_t cb_stride, uint8_t *cr, size_t cr_len, size_t cr_stride,
+    uint8_t *done, size_t done_len, const uint16_t *slices, size_t slices_len, struct jiwarbend_progress *progress,
+    uint8_t kind, const uint8_t *modes, size_t modes_len, uint8_t chroma_mode, const int32_t *numbers, size_t numbers_len);
+
+/* ---- prediction of one block (clause 8.3)
+
+   The marks say which samples beside the block are available; those of an absent side are not read. The answers are 0, 2 for a list of
+   another length than the one given here, 6 and 7. */
+
+/* Luma 4x4, modes 0..8: top 8, left 4, out 16. top[4..7] are the samples above and to the right, or the last one above repeated. */
+uint32_t jiwarbend_intra4x4_pred(uint8_t mode, bool avail_top, bool avail_left, bool avail_corner, const uint8_t *top, size_t top_len,
+    const uint8_t *left, size_t left_len, uint8_t corner, uint8_t *out, size_t out_len);
+
+/* Luma 8x8, modes 0..8, neighbours filtered first: top 16, left 8, out 64. top[8..15] as above. */
+uint32_t jiwarbend_intra8x8_pred(uint8_t mode, bool avail_top, bool avail_left, bool avail_corner, const uint8_t *top, size_t top_len,
+    const uint8_t *left, size_t left_len, uint8_t corner, uint8_t *out, size_t out_len);
+
+/* Luma 16x16, modes 0..3 (vertical, horizontal, DC, plane): top 16, left 16, out 256. */
+uint32_t jiwarbend_luma16x16_pred(uint8_t mode, bool avail_top, bool avail_left, bool avail_corner, const uint8_t *top, size_t top_len,
+    const uint8_t *left, size_t left_len, uint8_t corner, uint8_t *out, size_t out_len);
+
+/* Chroma 8x8, modes 0..3 (DC, horizontal, vertical, plane): top 8, left 8, out 64. */
+uint32_t jiwarbend_chroma8x8_pred(uint8_t mode, bool avail_top, bool avail_left, bool avail_corner, const uint8_t *top, size_t top_len,
+    const uint8_t *left, size_t left_len, uint8_t corner, uint8_t *out, size_t out_len);
+
+/* Luma 16x16, modes 0..3, from the samples around place base of a plane, both neighbours there, into the first 256 bytes of pred; those
+   beyond keep what they held. 2 unless the stride is 1..4096, corner, above row and left column lie in rec, and pred has 256 bytes. */
+uint32_t jiwarbend_i16x16_luma_pred(uint8_t mode, uint8_t *pred, size_t pred_len, const uint8_t *rec, size_t rec_len, size_t base, size_t stride);
+
+/* Chroma 8x8, modes 2 and 3, in the same way, into the first 64 bytes of pred. */
+uint32_t jiwarbend_chroma8x8_plane_pred(uint8_t mode, uint8_t *pred, size_t pred_len, const uint8_t *rec, size_t rec_len, size_t base, size_t stride);
+
+/* The modes that the marks permit: bit m for mode m, other bits 0. */
+uint16_t jiwarbend_permitted_4x4(bool avail_top, bool avail_left, bool avail_corner);
+uint16_t jiwarbend_permitted_8x8(bool avail_top, bool avail_left, bool avail_corner);
+uint16_t jiwarbend_permitted_16x16(bool avail_top, bool avail_left, bool avail_corner);
+uint16_t jiwarbend_permitted_chroma(bool avail_top, bool avail_left, bool avail_corner);
+
+/* ---- the 4x4 inverse and clipped sums (clause 8.5)
+
+   The answers are 0, 2 and 8. Lists have 16 elements, 64 in add_residual_8x8. */
+
+/* The residual of dequantised coefficients. */
+uint32_t jiwarbend_inverse_4x4(const int32_t *deq, size_t deq_len, int32_t *out, size_t out_len);
+
+/* A prediction with the residual of coefficients, or with a residual, added and clipped to 0..255. */
+uint32_t jiwarbend_reconstruct_4x4(const int32_t *deq, size_t deq_len, const int32_t *pred, size_t pred_len, uint8_t *out, size_t out_len);
+uint32_t jiwarbend_add_residual_4x4(const int32_t *res, size_t res_len, const int32_t *pred, size_t pred_len, uint8_t *out, size_t out_len);
+uint32_t jiwarbend_add_residual_8x8(const int32_t *res, size_t res_len, const int32_t *pred, size_t pred_len, uint8_t *out, size_t out_len);
+
+/* The same from four rows of four samples in pred into four rows in rec. 2 unless the prediction's stride is 0..4096, the written one
+   4..4096, and all rows lie in their buffers. The second adds one residual to all sixteen samples. */
+uint32_t jiwarbend_reconstruct_4x4_into(const int32_t *deq, size_t deq_len, const uint8_t *pred, size_t pred_len, size_t p_off, size_t p_stride,
+    uint8_t *rec, size_t rec_len, size_t r_off, size_t r_stride);
+uint32_t jiwarbend_reconstruct_4x4_dc_into(int32_t rval, const uint8_t *pred, size_t pred_len, size_t p_off, size_t p_stride,
+    uint8_t *rec, size_t rec_len, size_t r_off, size_t r_stride);
+uint32_t jiwarbend_add_residual_4x4_into(const int32_t *res, size_t res_len, const uint8_t *pred, size_t pred_len, size_t p_off, size_t p_stride,
+    uint8_t *rec, size_t rec_len, size_t r_off, size_t r_stride);
+
+/* ---- small tables; these never refuse a value */
+
+/* v brought into 0..255. */
+uint8_t jiwarbend_clip_u8(int32_t v);
+
+/* The chroma QP of a luma QP, with an index offset of 0; above 51 as for 51. */
+uint8_t jiwarbend_chroma_qp(uint8_t qp);
+
+/* The context nC from the numbers of coefficients to the left (a) and above (b), where there are such blocks. */
+int32_t jiwarbend_nc_from_neighbors(bool has_a, uint8_t a, bool has_b, uint8_t b);
+
+/* The numbers of coefficients of a macroblock's 24 blocks, from scan order to raster order: 24 in, 24 out, else 2. */
+uint32_t jiwarbend_nnz_raster_from_z(const uint8_t *n, size_t n_len, uint8_t *out, size_t out_len);
+
+#ifdef __cplusplus
+}
+#endif
+
+#endif
