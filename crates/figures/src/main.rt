@@ -1,0 +1,28 @@
+// Runs the limits that the rules name and that are not proved as figures: strides, offsets, lengths and numbers of the block calls, sizes, maps and
+// records of the picture calls, and a picture rebuilt in two orders. Each line says what was called and what came of it.
+mod blocks; // calls on one block
+mod pictures; // calls on a picture
+mod shuffled; // a picture in two orders
+mod tell;
+
+use libc::STDOUT_FILENO;
+
+fn main() {
+    io::write_all(
+        STDOUT_FILENO,
+        b"block calls: what was called, and the answer\n",
+    );
+    blocks::strides();
+    blocks::places();
+    blocks::numbers();
+    blocks::plane_forms();
+    io::write_all(
+        STDOUT_FILENO,
+        b"picture calls: what was called, and the answer\n",
+    );
+    pictures::starts();
+    pictures::sizes();
+    pictures::slices();
+    pictures::refusals();
+    shuffled::compare();
+}

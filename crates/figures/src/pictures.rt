@@ -1,0 +1,249 @@
+// The limits of the picture calls, a dialogue of accepted and refused calls, and a picture rebuilt out of order. Pictures are 3 by 2 macroblocks where
+// nothing else is said, in planes with padding beside and after the rows.
+use super::tell::tell;
+use macroblock::Record;
+use picture::Progress;
+
+// A record of a kind with DC everywhere: permitted wherever it stands.
+fn flat(kind: u8) -> Record {
+    let mut modes = [2u8; 16];
+    if kind == 1 {
+        modes = [2, 2, 2, 2, 0, 0, 0, 0, 0, 0, 0, 0, 0, 0, 0, 0];
+    }
+    if kind >= 2 {
+        modes = [2, 0, 0, 0, 0, 0, 0, 0, 0, 0, 0, 0, 0, 0, 0, 0];
+    }
+    Record {
+        kind,
+        modes,
+        chroma_mode: 0,
+        numbers: [0i32; 384],
+    }
+}
+
+// The same with one mode, one number or the chroma mode put anew.
+fn with_mode(r: Record, k: usize, mode: u8) -> Record {
+    let mut modes = r.modes;
+    if k < 16 {
+        modes[k] = mode;
+    }
+    let numbers = r.numbers;
+    Record {
+        kind: r.kind,
+        modes,
+        chroma_mode: r.chroma_mode,
+        numbers,
+    }
+}
+
+fn with_chroma(r: Record, mode: u8) -> Record {
+    let modes = r.modes;
+    let numbers = r.numbers;
+    Record {
+        kind: r.kind,
+        modes,
+        chroma_mode: mode,
+        numbers,
+    }
+}
+
+fn with_number(r: Record, v: i32) -> Record {
+    let modes = r.modes;
+    let mut numbers = r.numbers;
+    numbers[383] = v;
+    Record {
+        kind: r.kind,
+        modes,
+        chroma_mode: r.chroma_mode,
+        numbers,
+    }
+}
+
+// Starting a picture with 8160, 6 and 5 bytes of a done map.
+fn start_8160(w: u32, h: u32) -> u32 {
+    let mut done = [7u8; 8160];
+    picture::start_core(w, h, &mut done, Progress { count: 9, last: 9 }).answer
+}
+
+fn start_6(w: u32, h: u32) -> u32 {
+    let mut done = [7u8; 6];
+    picture::start_core(w, h, &mut done, Progress { count: 9, last: 9 }).answer
+}
+
+fn start_5(w: u32, h: u32) -> u32 {
+    let mut done = [7u8; 5];
+    picture::start_core(w, h, &mut done, Progress { count: 9, last: 9 }).answer
+}
+
+pub(crate) fn starts() {
+    tell(b"start, 120 by 68, 8160 bytes", start_8160(120, 68));
+    tell(b"start, 121 by 68", start_8160(121, 68));
+    tell(b"start, 0 by 1", start_6(0, 1));
+    tell(b"start, 1 by 69", start_6(1, 69));
+    tell(b"start, 3 by 2, 6 bytes", start_6(3, 2));
+    tell(b"start, 3 by 2, 5 bytes", start_5(3, 2));
+}
+
+// One call on a row of w macroblocks, with maps of 120 entries and of 3.
+fn in_120(w: u32, luma_stride: usize, chroma_stride: usize) -> u32 {
+    let mut luma = [0u8; 32768];
+    let mut cb = [0u8; 8192];
+    let mut cr = [0u8; 8192];
+    let mut done = [0u8; 120];
+    let slices = [0u16; 120];
+    let p = Progress { count: 0, last: 0 };
+    picture::rebuild_core(
+        w,
+        1,
+        0,
+        0,
+        &mut luma,
+        luma_stride,
+        &mut cb,
+        chroma_stride,
+        &mut cr,
+        chroma_stride,
+        &mut done,
+        &slices,
+        p,
+        flat(2),
+    ).answer
+}
+
+fn in_3(x: u32, luma_stride: usize, chroma_stride: usize) -> u32 {
+    let mut luma = [0u8; 32768];
+    let mut cb = [0u8; 8192];
+    let mut cr = [0u8; 8192];
+    let mut done = [0u8; 3];
+    let slices = [0u16; 3];
+    let p = Progress { count: 0, last: 0 };
+    picture::rebuild_core(
+        3,
+        1,
+        x,
+        0,
+        &mut luma,
+        luma_stride,
+        &mut cb,
+        chroma_stride,
+        &mut cr,
+        chroma_stride,
+        &mut done,
+        &slices,
+        p,
+        flat(2),
+    ).answer
+}
+
+pub(crate) fn sizes() {
+    tell(b"rebuild, W 120", in_120(120, 1920, 960));
+    tell(b"rebuild, W 121", in_120(121, 1936, 968));
+    tell(b"rebuild, W 3, luma stride 48", in_3(0, 48, 24));
+    tell(b"rebuild, W 3, luma stride 47", in_3(0, 47, 24));
+    tell(b"rebuild, W 3, chroma stride 23", in_3(0, 48, 23));
+    tell(b"rebuild, W 3, x 3", in_3(3, 48, 24));
+}
+
+// One call at (x, y) where the maps are these and `count` macroblocks are counted.
+fn at(x: u32, y: u32, done: [u8; 6], slices: [u16; 6], count: u32, record: Record) -> u32 {
+    let mut luma = [0u8; 1670];
+    let mut cb = [0u8; 440];
+    let mut cr = [0u8; 440];
+    let mut map = done;
+    let p = Progress { count, last: 0 };
+    picture::rebuild_core(
+        3,
+        2,
+        x,
+        y,
+        &mut luma,
+        52,
+        &mut cb,
+        27,
+        &mut cr,
+        27,
+        &mut map,
+        &slices,
+        p,
+        record,
+    ).answer
+}
+
+// Slice 0 at address 0 and slice 1 elsewhere: address 4 has A, B and C but not D, and address 3 has C but not B.
+pub(crate) fn slices() {
+    let map: [u16; 6] = [0, 1, 1, 1, 1, 1];
+    let four: [u8; 6] = [1, 1, 1, 1, 0, 0];
+    let three: [u8; 6] = [1, 1, 1, 0, 0, 0];
+    tell(
+        b"address 4, 16x16 plane without D",
+        at(1, 1, four, map, 4, with_mode(flat(2), 0, 3)),
+    );
+    tell(
+        b"address 4, chroma plane without D",
+        at(1, 1, four, map, 4, with_chroma(flat(2), 3)),
+    );
+    tell(
+        b"address 4, 16x16 vertical",
+        at(1, 1, four, map, 4, with_mode(flat(2), 0, 0)),
+    );
+    tell(
+        b"address 3, 4x4 mode 3 in block 5 without B",
+        at(0, 1, three, map, 3, with_mode(flat(0), 5, 3)),
+    );
+    tell(
+        b"address 3, 4x4 mode 3 in block 6",
+        at(0, 1, three, map, 3, with_mode(flat(0), 6, 3)),
+    );
+    tell(b"address 3, count 7", at(0, 1, three, map, 7, flat(0)));
+}
+
+// Each refusal at one place, the smallest first where several hold.
+pub(crate) fn refusals() {
+    let one: [u16; 6] = [5, 5, 5, 5, 5, 5];
+    let none: [u8; 6] = [0, 0, 0, 0, 0, 0];
+    let first: [u8; 6] = [1, 0, 0, 0, 0, 0];
+    let odd: [u8; 6] = [2, 0, 0, 0, 0, 0];
+    tell(b"y 2", at(0, 2, none, one, 0, flat(0)));
+    tell(b"done, with a kind of 3", at(0, 0, first, one, 1, flat(3)));
+    tell(
+        b"a neighbour undone, with a kind of 3",
+        at(1, 0, none, one, 0, flat(3)),
+    );
+    tell(
+        b"a neighbour whose byte is 2, not 1",
+        at(1, 0, odd, one, 0, flat(0)),
+    );
+    tell(b"kind 3", at(0, 0, none, one, 0, flat(3)));
+    tell(
+        b"4x4 mode 9",
+        at(0, 0, none, one, 0, with_mode(flat(0), 15, 9)),
+    );
+    tell(
+        b"16x16 mode 4",
+        at(0, 0, none, one, 0, with_mode(flat(2), 0, 4)),
+    );
+    tell(
+        b"chroma mode 4",
+        at(0, 0, none, one, 0, with_chroma(flat(0), 4)),
+    );
+    tell(
+        b"8x8 with a fifth mode",
+        at(0, 0, none, one, 0, with_mode(flat(1), 4, 2)),
+    );
+    tell(
+        b"8x8 vertical in block 0 at the top",
+        at(0, 0, none, one, 0, with_mode(flat(1), 0, 0)),
+    );
+    tell(
+        b"8x8 vertical in block 2",
+        at(0, 0, none, one, 0, with_mode(flat(1), 2, 0)),
+    );
+    tell(
+        b"number 32767",
+        at(0, 0, none, one, 0, with_number(flat(0), 32767)),
+    );
+    tell(
+        b"number 32768",
+        at(0, 0, none, one, 0, with_number(flat(0), 32768)),
+    );
+}

@@ -1,0 +1,270 @@
+// A picture of 3 by 2 macroblocks in two slices, rebuilt in raster order and in a shuffled order that comes round six times, over planes that held
+// different bytes. Luma is 48 by 32 with stride 52, chroma 24 by 16 with stride 27; every other byte is padding.
+ghost use Prim.Native.Nat.{_<_};
+use super::tell::tell;
+use libc::STDOUT_FILENO;
+use macroblock::Record;
+use picture::Progress;
+
+const SLICES: [u16; 6] = [0, 0, 1, 0, 0, 1];
+
+const SHUFFLED: [u32; 6] = [4, 2, 5, 3, 1, 0];
+
+// By address: the kind, the mode of a 16x16 macroblock, and the chroma mode.
+const KIND: [u8; 6] = [0, 1, 0, 2, 2, 1];
+
+const WHOLE: [u8; 6] = [2, 2, 2, 0, 3, 2];
+
+const CHROMA: [u8; 6] = [0, 1, 0, 2, 3, 2];
+
+// Whether block k of sixteen has blocks of its own macroblock above it and to its left, so that it may use every mode.
+const INNER: [bool; 16] = [
+    false,
+    false,
+    false,
+    true,
+    false,
+    false,
+    true,
+    true,
+    false,
+    true,
+    false,
+    true,
+    true,
+    true,
+    true,
+    true,
+];
+
+// The mode of block k of macroblock a.
+fn mode_of(a: usize, k: usize) -> u8 {
+    if a >= 6 {
+        return 0;
+    }
+    if k >= 16 {
+        return 0;
+    }
+    let kind = KIND[a];
+    if kind == 0 {
+        if INNER[k] {
+            return ((5 * k + a) % 9) as u8;
+        }
+        return 2;
+    }
+    if kind == 1 {
+        if k == 3 {
+            return (a + 3) as u8;
+        }
+        if k < 3 {
+            return 2;
+        }
+        return 0;
+    }
+    if k == 0 {
+        return WHOLE[a];
+    }
+    0
+}
+
+// Number i of macroblock a: small ones of either sign, and a larger first coefficient in each block.
+const SMALL: [i32; 7] = [-30, 17, 3, -8, 25, -1, 9];
+
+const LARGE: [i32; 5] = [-640, 320, 900, -210, 75];
+
+fn number_of(a: usize, i: usize) -> i32 {
+    if i % 16 == 0 {
+        return LARGE[(a % 5 + i / 16) % 5];
+    }
+    SMALL[(a % 7 + i % 7) % 7]
+}
+
+fn modes_of(a: usize) -> [u8; 16] {
+    let mut modes = [0u8; 16];
+    for k in 0..16 {
+        modes[k] = mode_of(a, k);
+    }
+    modes
+}
+
+fn numbers_of(a: usize) -> [i32; 384] {
+    let mut numbers = [0i32; 384];
+    for i in 0..384 {
+        numbers[i] = number_of(a, i);
+    }
+    numbers
+}
+
+fn record_of(a: usize) -> Record {
+    let modes = modes_of(a);
+    let numbers = numbers_of(a);
+    let mut kind = 2;
+    let mut chroma_mode = 0;
+    if a < 6 {
+        kind = KIND[a];
+        chroma_mode = CHROMA[a];
+    }
+    Record {
+        kind,
+        modes,
+        chroma_mode,
+        numbers,
+    }
+}
+
+// How often each answer was given.
+struct Answers {
+    accepted: u32,
+    done: u32,
+    not_ready: u32,
+    other: u32,
+}
+
+fn one_more(n: u32) -> u32 {
+    std::num::wrapping_add_u32(n, 1)
+}
+
+fn count(n: Answers, answer: u32) -> Answers {
+    let mut m = n;
+    if answer == 0 {
+        m.accepted = one_more(n.accepted);
+    } else if answer == 4 {
+        m.done = one_more(n.done);
+    } else if answer == 5 {
+        m.not_ready = one_more(n.not_ready);
+    } else {
+        m.other = one_more(n.other);
+    }
+    m
+}
+
+// The answers to six rounds of the order, each macroblock offered with its own record.
+fn rebuild_all(
+    order: [u32; 6],
+    luma: &mut [u8],
+    cb: &mut [u8],
+    cr: &mut [u8],
+    done: &mut [u8],
+) -> Answers {
+    let mut n = Answers {
+        accepted: 0,
+        done: 0,
+        not_ready: 0,
+        other: 0,
+    };
+    let mut progress = picture::start_core(3, 2, done, Progress { count: 9, last: 9 }).progress;
+    for i in 0..36 {
+        let a = order[i % 6];
+        let r = picture::rebuild_core(
+            3,
+            2,
+            a % 3,
+            a / 3,
+            luma,
+            52,
+            cb,
+            27,
+            cr,
+            27,
+            done,
+            &SLICES,
+            progress,
+            record_of(a as usize),
+        );
+        progress = r.progress;
+        n = count(n, r.answer);
+    }
+    tell(b"  counted", progress.count);
+    n
+}
+
+fn tell_answers(n: Answers) {
+    tell(b"  accepted", n.accepted);
+    tell(b"  refused as done", n.done);
+    tell(b"  refused as not ready", n.not_ready);
+    tell(b"  refused otherwise", n.other);
+}
+
+// The bytes of a picture in which two planes differ, and those of the padding in which one of them is not what it was before.
+struct Differing {
+    samples: u32,
+    padding: u32,
+}
+
+fn compared(
+    p: &[u8],
+    was_p: u8,
+    q: &[u8],
+    was_q: u8,
+    width: usize,
+    height: usize,
+    stride: usize,
+) -> Differing
+    requires { ⌜ 0 < stride ⌝ }
+{
+    let mut d = Differing {
+        samples: 0,
+        padding: 0,
+    };
+    let mut i = 0;
+    while i < p.len() {
+        if i < q.len() {
+            if outside(i, width, height, stride) {
+                if p[i] != was_p {
+                    d.padding = one_more(d.padding);
+                }
+                if q[i] != was_q {
+                    d.padding = one_more(d.padding);
+                }
+            } else if p[i] != q[i] {
+                d.samples = one_more(d.samples);
+            }
+        }
+        i += 1;
+    }
+    d
+}
+
+// Whether place i lies outside the picture.
+fn outside(i: usize, width: usize, height: usize, stride: usize) -> bool
+    requires { ⌜ 0 < stride ⌝ }
+{
+    if i % stride >= width {
+        return true;
+    }
+    i / stride >= height
+}
+
+fn tell_differing(d: Differing) {
+    tell(b"  samples that differ", d.samples);
+    tell(b"  padding bytes that changed", d.padding);
+}
+
+pub(crate) fn compare() {
+    let mut luma = [11u8; 1670];
+    let mut cb = [12u8; 440];
+    let mut cr = [13u8; 440];
+    let mut done = [1u8; 6];
+    io::write_all(STDOUT_FILENO, b"raster order\n");
+    let raster = [0, 1, 2, 3, 4, 5];
+    let n = rebuild_all(raster, &mut luma, &mut cb, &mut cr, &mut done);
+    tell_answers(n);
+    shuffle(&luma, &cb, &cr);
+}
+
+// The other run, and what differs.
+fn shuffle(luma: &[u8], cb: &[u8], cr: &[u8]) {
+    let mut luma2 = [201u8; 1670];
+    let mut cb2 = [202u8; 440];
+    let mut cr2 = [203u8; 440];
+    let mut done = [0u8; 6];
+    io::write_all(STDOUT_FILENO, b"shuffled order\n");
+    let n = rebuild_all(SHUFFLED, &mut luma2, &mut cb2, &mut cr2, &mut done);
+    tell_answers(n);
+    io::write_all(STDOUT_FILENO, b"luma of the two\n");
+    tell_differing(compared(luma, 11, &luma2, 201, 48, 32, 52));
+    io::write_all(STDOUT_FILENO, b"Cb of the two\n");
+    tell_differing(compared(cb, 12, &cb2, 202, 24, 16, 27));
+    io::write_all(STDOUT_FILENO, b"Cr of the two\n");
+    tell_differing(compared(cr, 13, &cr2, 203, 24, 16, 27));
+}
