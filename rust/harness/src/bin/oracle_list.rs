@@ -1,0 +1,163 @@
+//! Writes the fixed list of the Rust's answers to standard output: for each routine, in the order of crates/oracle_list/src/main.rt, the
+//! number of its cases in two bytes, and the cases as the program there reads them. A refused case has the rules' answer and leaves zeros,
+//! or the buffer as it was.
+use harness::Random;
+use oracle::predict;
+use oracle::rules::{self, Marks, Square};
+use std::io::Write;
+
+struct List(Vec<u8>);
+
+impl List {
+    fn part(&mut self, cases: usize, mut case: impl FnMut(usize, &mut Vec<u8>)) {
+        self.0.extend((cases as u16).to_le_bytes());
+        for k in 0..cases {
+            case(k, &mut self.0);
+        }
+    }
+}
+
+/// A number in three bytes.
+fn put(out: &mut Vec<u8>, numbers: &[i32]) {
+    for n in numbers {
+        out.extend(&(n + 8_388_608).to_le_bytes()[..3]);
+    }
+}
+
+/// Numbers, of which one in some lists is just out of range.
+fn numbers<const N: usize>(random: &mut Random) -> [i32; N] {
+    let mut out = [0; N];
+    random.numbers(&mut out);
+    if random.one_in(8) {
+        out[random.below(N)] = random.pick(&[-32769, 32768, 100_000, -32768, 32767]);
+    }
+    out
+}
+
+fn answer<T>(result: &Result<T, u32>) -> u8 {
+    result.as_ref().err().map_or(0, |&n| n as u8)
+}
+
+fn predictor<const T: usize, const L: usize, const B: usize>(
+    list: &mut List,
+    random: &mut Random,
+    cases: usize,
+    last: u8,
+    rust: impl Fn(u8, Marks, &[u8; T], &[u8; L], u8) -> Result<[u8; B], u32>,
+) {
+    list.part(cases, |k, out| {
+        // Every mode with every set of marks first, then modes at random, most with all marks.
+        let modes = last as usize + 2;
+        let mode = if k < 8 * modes { (k % modes) as u8 } else { random.below(last as usize + 1) as u8 };
+        let bits = if k < 8 * modes { k / modes } else { random.pick(&[7, 7, 7, 3, 5, 6]) };
+        let m = Marks { above: bits & 1 != 0, left: bits & 2 != 0, corner: bits & 4 != 0 };
+        let (mut top, mut left) = ([0; T], [0; L]);
+        random.samples(&mut top);
+        random.samples(&mut left);
+        let corner = random.byte();
+        let result = rust(mode, m, &top, &left, corner);
+        out.extend([mode, bits as u8, corner, answer(&result)]);
+        out.extend(top);
+        out.extend(left);
+        out.extend(result.unwrap_or([0; B]));
+    });
+}
+
+fn from_plane<const B: usize, const P: usize>(
+    list: &mut List,
+    random: &mut Random,
+    cases: usize,
+    n: usize,
+    rust: impl Fn(u8, &mut [u8], &[u8], usize, usize) -> Result<(), u32>,
+) {
+    list.part(cases, |_, out| {
+        let mut plane = [0; P];
+        random.samples(&mut plane);
+        let stride = random.below(P / n);
+        let base = stride + random.below(4);
+        let mode = random.below(5) as u8;
+        let mut block = [0; B];
+        let result = rust(mode, &mut block, &plane, base, stride);
+        out.extend([mode, base as u8, stride as u8, answer(&result)]);
+        out.extend(plane);
+        out.extend(block);
+    });
+}
+
+fn sums<const B: usize>(list: &mut List, random: &mut Random, cases: usize, rust: impl Fn(&[i32; B], &[i32; B]) -> Result<[u8; B], u32>) {
+    list.part(cases, |_, out| {
+        let first = numbers::<B>(random);
+        let pred = if random.one_in(4) { numbers::<B>(random) } else { std::array::from_fn(|_| random.byte() as i32) };
+        let result = rust(&first, &pred);
+        out.push(answer(&result));
+        put(out, &first);
+        put(out, &pred);
+        out.extend(result.unwrap_or([0; B]));
+    });
+}
+
+fn into_plane<const K: usize>(
+    list: &mut List,
+    random: &mut Random,
+    cases: usize,
+    rust: impl Fn(&[i32; K], &[u8], Square, &mut [u8], Square) -> Result<(), u32>,
+) {
+    list.part(cases, |_, out| {
+        let first = numbers::<K>(random);
+        let (mut pred, mut rec) = ([0; 40], [0; 60]);
+        random.samples(&mut pred);
+        random.samples(&mut rec);
+        let from = Square { offset: random.below(8), stride: random.below(13) };
+        let to = Square { offset: random.below(10), stride: 3 + random.below(16) };
+        let before = rec;
+        let result = rust(&first, &pred, from, &mut rec, to);
+        out.extend([answer(&result), from.offset as u8, from.stride as u8, to.offset as u8, to.stride as u8]);
+        put(out, &first);
+        out.extend(pred);
+        out.extend(before);
+        out.extend(rec);
+    });
+}
+
+fn main() {
+    let mut random = Random::new(2026);
+    let random = &mut random;
+    let mut list = List(Vec::new());
+    list.part(300, |k, out| {
+        let v = if k < 200 { 4 * k as i32 - 300 } else { random.below(2_000_000) as i32 - 1_000_000 };
+        put(out, &[v]);
+        out.push(predict::clip_u8(v));
+    });
+    list.part(256, |k, out| out.extend([k as u8, predict::chroma_qp(k as u8)]));
+    list.part(240, |k, out| {
+        let (marks, a, b) = (k % 4, random.byte(), random.byte());
+        let (a, b) = if k < 120 { (a % 17, b % 17) } else { (a, b) };
+        let nc = predict::nc_from_neighbors((marks & 1 != 0).then_some(a), (marks & 2 != 0).then_some(b));
+        out.extend([marks as u8, a, b, nc as u8]);
+    });
+    list.part(40, |_, out| {
+        let n: [u8; 24] = std::array::from_fn(|_| random.byte());
+        out.extend(n);
+        out.extend(predict::nnz_raster_from_z(&n));
+    });
+    predictor(&mut list, random, 700, 8, rules::intra4x4_pred);
+    predictor(&mut list, random, 400, 8, rules::intra8x8_pred);
+    predictor(&mut list, random, 120, 3, rules::luma16x16_pred);
+    predictor(&mut list, random, 250, 3, rules::chroma8x8_pred);
+    from_plane::<256, 300>(&mut list, random, 60, 16, rules::i16x16_luma_pred);
+    from_plane::<64, 100>(&mut list, random, 120, 8, rules::chroma8x8_plane_pred);
+    list.part(300, |_, out| {
+        let deq = numbers::<16>(random);
+        let result = rules::inverse_4x4(&deq);
+        out.push(answer(&result));
+        put(out, &deq);
+        put(out, &result.unwrap_or([0; 16]));
+    });
+    sums(&mut list, random, 200, rules::reconstruct_4x4);
+    sums(&mut list, random, 200, rules::add_residual_4x4);
+    sums(&mut list, random, 60, rules::add_residual_8x8);
+    into_plane::<16>(&mut list, random, 200, rules::reconstruct_4x4_into);
+    into_plane::<1>(&mut list, random, 200, |first, pred, from, rec, to| rules::reconstruct_4x4_dc_into(first[0], pred, from, rec, to));
+    into_plane::<16>(&mut list, random, 200, rules::add_residual_4x4_into);
+    std::io::stdout().write_all(&list.0).unwrap();
+}

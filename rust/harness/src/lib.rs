@@ -1,0 +1,212 @@
+//! What the differential runs, the fixed list and the benchmark share: numbers at random, records, and pictures over both sides.
+use oracle::driver::{self, Near};
+use oracle::rules;
+
+/// Numbers at random, the same in every run.
+pub struct Random(u64);
+
+impl Random {
+    pub fn new(seed: u64) -> Random {
+        Random(seed.wrapping_mul(0x9e37_79b9_7f4a_7c15) | 1)
+    }
+
+    pub fn next(&mut self) -> u64 {
+        self.0 ^= self.0 << 13;
+        self.0 ^= self.0 >> 7;
+        self.0 ^= self.0 << 17;
+        self.0.wrapping_mul(0x2545_f491_4f6c_dd1d)
+    }
+
+    pub fn below(&mut self, n: usize) -> usize {
+        ((self.next() >> 32) as usize * n) >> 32
+    }
+
+    pub fn byte(&mut self) -> u8 {
+        (self.next() >> 56) as u8
+    }
+
+    pub fn one_in(&mut self, n: usize) -> bool {
+        self.below(n) == 0
+    }
+
+    pub fn pick<T: Copy>(&mut self, from: &[T]) -> T {
+        from[self.below(from.len())]
+    }
+
+    /// Samples of one of several kinds: anything, a flat run, a ramp, the two ends, or nearly flat.
+    pub fn samples(&mut self, out: &mut [u8]) {
+        let (first, step) = (self.byte(), self.below(64) as i32 - 32);
+        let kind = self.below(5);
+        for (i, v) in out.iter_mut().enumerate() {
+            *v = match kind {
+                0 => self.byte(),
+                1 => first,
+                2 => (first as i32 + step * i as i32).clamp(0, 255) as u8,
+                3 => [0, 255][self.below(2)],
+                _ => first.wrapping_add(self.below(3) as u8),
+            };
+        }
+    }
+
+    /// Numbers inside the range, small, large or at its ends.
+    pub fn numbers(&mut self, out: &mut [i32]) {
+        let reach = self.pick(&[1, 40, 300, 5000, 32768]);
+        let sparse = self.below(3);
+        for v in out.iter_mut() {
+            *v = match self.below(8) {
+                0 if reach == 32768 => self.pick(&[rules::LOW, rules::HIGH]),
+                k if k < 3 * sparse => 0,
+                _ => (self.below(2 * reach + 1) as i32 - reach as i32).clamp(rules::LOW, rules::HIGH),
+            };
+        }
+    }
+}
+
+/// A macroblock's record.
+#[derive(Clone, Debug)]
+pub struct Record {
+    pub kind: u8,
+    pub modes: [u8; 16],
+    pub chroma_mode: u8,
+    pub numbers: [i32; 384],
+}
+
+/// The marks of each block of a macroblock of this kind, in its order.
+pub fn block_marks(kind: u8, n: Near) -> Vec<rules::Marks> {
+    match kind {
+        0 => oracle::predict::LUMA_4X4_SCAN_XY.iter().map(|&(bx, by)| driver::marks(bx, by, n)).collect(),
+        1 => (0..4).map(|k| driver::marks(k % 2, k / 2, n)).collect(),
+        _ => vec![driver::marks(0, 0, n)],
+    }
+}
+
+/// A record of this kind that is acceptable between these neighbours.
+pub fn good_record(random: &mut Random, kind: u8, n: Near) -> Record {
+    let mut r = Record { kind, modes: [0; 16], chroma_mode: 0, numbers: [0; 384] };
+    let luma = |mode, m| if kind == 2 { rules::permitted_16x16(mode, m) } else { rules::permitted_nxn(mode, m) };
+    let choose = |random: &mut Random, permitted: &dyn Fn(u8) -> bool| {
+        let modes: Vec<u8> = (0..9).filter(|&m| permitted(m)).collect();
+        random.pick(&modes)
+    };
+    for (k, m) in block_marks(kind, n).into_iter().enumerate() {
+        r.modes[k] = choose(random, &|mode| luma(mode, m));
+    }
+    let whole = driver::marks(0, 0, n);
+    r.chroma_mode = choose(random, &|mode| rules::permitted_chroma(mode, whole));
+    random.numbers(&mut r.numbers);
+    r
+}
+
+/// The memory of a picture, of which both sides get a copy.
+#[derive(Clone, Debug, PartialEq, Eq)]
+pub struct Memory {
+    pub w: u32,
+    pub h: u32,
+    pub planes: [Vec<u8>; 3],
+    pub strides: [usize; 3],
+    pub done: Vec<u8>,
+    pub slices: Vec<u16>,
+    pub progress: (u32, u32),
+}
+
+impl Memory {
+    /// Planes with anything in them, and `pad` bytes more in a row than the picture has.
+    pub fn new(random: &mut Random, w: u32, h: u32, slices: Vec<u16>, pad: usize) -> Memory {
+        let n = (w * h) as usize;
+        let mut plane = |side: usize| {
+            let stride = (side * w as usize + pad).min(4096);
+            let mut samples = vec![0; (side * h as usize - 1) * stride + side * w as usize + pad];
+            samples.iter_mut().for_each(|v| *v = random.byte());
+            (samples, stride)
+        };
+        let [(luma, ls), (cb, cbs), (cr, crs)] = [plane(16), plane(8), plane(8)];
+        Memory { w, h, planes: [luma, cb, cr], strides: [ls, cbs, crs], done: vec![0; n], slices, progress: (0, 0) }
+    }
+
+    /// A call of the port.
+    pub fn port(&mut self, x: u32, y: u32, kind: u8, modes: &[u8], chroma_mode: u8, numbers: &[i32]) -> u32 {
+        let mut progress = jiwarbend::Progress { count: self.progress.0, last: self.progress.1 };
+        let [luma, cb, cr] = &mut self.planes;
+        let answer = unsafe {
+            jiwarbend::sys::jiwarbend_rebuild(
+                self.w,
+                self.h,
+                x,
+                y,
+                luma.as_mut_ptr(),
+                luma.len(),
+                self.strides[0],
+                cb.as_mut_ptr(),
+                cb.len(),
+                self.strides[1],
+                cr.as_mut_ptr(),
+                cr.len(),
+                self.strides[2],
+                self.done.as_mut_ptr(),
+                self.done.len(),
+                self.slices.as_ptr(),
+                self.slices.len(),
+                &mut progress,
+                kind,
+                modes.as_ptr(),
+                modes.len(),
+                chroma_mode,
+                numbers.as_ptr(),
+                numbers.len(),
+            )
+        };
+        self.progress = (progress.count, progress.last);
+        answer
+    }
+
+    /// The same call of the driver over the Rust's routines.
+    pub fn rust(&mut self, x: u32, y: u32, kind: u8, modes: &[u8], chroma_mode: u8, numbers: &[i32]) -> u32 {
+        let mut progress = driver::Progress { count: self.progress.0, last: self.progress.1 };
+        let [luma, cb, cr] = &mut self.planes;
+        let answer = driver::Picture {
+            w: self.w,
+            h: self.h,
+            luma: driver::Plane { samples: luma, stride: self.strides[0] },
+            cb: driver::Plane { samples: cb, stride: self.strides[1] },
+            cr: driver::Plane { samples: cr, stride: self.strides[2] },
+            done: &mut self.done,
+            slices: &self.slices,
+            progress: &mut progress,
+        }
+        .rebuild(x, y, kind, modes, chroma_mode, numbers);
+        self.progress = (progress.count, progress.last);
+        answer
+    }
+}
+
+/// A slice map: one slice, runs of macroblocks, rows, or any numbers.
+pub fn slice_map(random: &mut Random, w: u32, h: u32) -> Vec<u16> {
+    let n = (w * h) as usize;
+    let run = 1 + random.below(n);
+    match random.below(4) {
+        0 => vec![random.next() as u16; n],
+        1 => (0..n).map(|a| (a / run) as u16).collect(),
+        2 => (0..n).map(|a| (a / w as usize) as u16).collect(),
+        _ => (0..n).map(|_| random.below(2) as u16).collect(),
+    }
+}
+
+/// An order of 0..n.
+pub fn shuffled(random: &mut Random, n: usize) -> Vec<usize> {
+    let mut order: Vec<usize> = (0..n).collect();
+    for i in (1..n).rev() {
+        order.swap(i, random.below(i + 1));
+    }
+    order
+}
+
+/// An acceptable record for each macroblock; its kind by `kind`.
+pub fn good_records(random: &mut Random, w: u32, h: u32, slices: &[u16], kind: impl Fn(&mut Random) -> u8) -> Vec<Record> {
+    (0..(w * h) as usize)
+        .map(|a| {
+            let n = driver::near(w as usize, slices, a % w as usize, a / w as usize);
+            let kind = kind(random);
+            good_record(random, kind, n)
+        })
+        .collect()
+}

@@ -1,0 +1,249 @@
+//! A driver over whole pictures that calls the Rust's routines: the rules' checks in their order, then the macroblock.
+use crate::predict::{self, I16Mode, CHROMA_4X4_SCAN_XY, LUMA_4X4_SCAN_XY};
+use crate::rules::{self, Marks};
+
+pub struct Plane<'a> {
+    pub samples: &'a mut [u8],
+    pub stride: usize,
+}
+
+#[derive(Clone, Copy, Debug, Default, PartialEq, Eq)]
+pub struct Progress {
+    pub count: u32,
+    pub last: u32,
+}
+
+pub struct Picture<'a> {
+    pub w: u32,
+    pub h: u32,
+    pub luma: Plane<'a>,
+    pub cb: Plane<'a>,
+    pub cr: Plane<'a>,
+    pub done: &'a mut [u8],
+    pub slices: &'a [u16],
+    pub progress: &'a mut Progress,
+}
+
+/// Which of the four neighbour macroblocks are available: A left, B above, C above-right, D above-left.
+#[derive(Clone, Copy)]
+pub struct Near {
+    pub a: bool,
+    pub b: bool,
+    pub c: bool,
+    pub d: bool,
+}
+
+/// The neighbours of the macroblock in column `x` and row `y` that lie in the picture and in its slice.
+pub fn near(w: usize, slices: &[u16], x: usize, y: usize) -> Near {
+    let at = y * w + x;
+    let same = |n: usize| slices[n] == slices[at];
+    Near {
+        a: x > 0 && same(at - 1),
+        b: y > 0 && same(at - w),
+        c: y > 0 && x + 1 < w && same(at + 1 - w),
+        d: y > 0 && x > 0 && same(at - w - 1),
+    }
+}
+
+fn sized(w: u32, h: u32) -> bool {
+    (1..=120).contains(&w) && (1..=68).contains(&h)
+}
+
+pub fn start(w: u32, h: u32, done: &mut [u8], progress: &mut Progress) -> u32 {
+    if !sized(w, h) {
+        return 1;
+    }
+    if done.len() != (w * h) as usize {
+        return 2;
+    }
+    done.fill(0);
+    *progress = Progress { count: 0, last: 0 };
+    0
+}
+
+impl Picture<'_> {
+    fn room(&self, modes: &[u8], numbers: &[i32]) -> bool {
+        let (w, h) = (self.w as usize, self.h as usize);
+        let plane = |p: &Plane, n: usize| (n * w..=4096).contains(&p.stride) && p.samples.len() >= (n * h - 1) * p.stride + n * w;
+        plane(&self.luma, 16)
+            && plane(&self.cb, 8)
+            && plane(&self.cr, 8)
+            && self.done.len() == w * h
+            && self.slices.len() == w * h
+            && self.progress.count <= self.w * self.h
+            && modes.len() == 16
+            && numbers.len() == 384
+    }
+
+    fn ready(&self, at: usize, n: Near) -> bool {
+        let w = self.w as usize;
+        let waits = |there: bool, back: usize| there && self.done[at - back] != 1;
+        !(waits(n.a, 1) || waits(n.b, w) || (n.c && self.done[at + 1 - w] != 1) || waits(n.d, w + 1))
+    }
+
+    /// Rebuilds the macroblock in column `x` and row `y`, or answers the refusal.
+    pub fn rebuild(&mut self, x: u32, y: u32, kind: u8, modes: &[u8], chroma_mode: u8, numbers: &[i32]) -> u32 {
+        if !sized(self.w, self.h) {
+            return 1;
+        }
+        if !self.room(modes, numbers) {
+            return 2;
+        }
+        if x >= self.w || y >= self.h {
+            return 3;
+        }
+        let (x, y) = (x as usize, y as usize);
+        let at = y * self.w as usize + x;
+        if self.done[at] == 1 {
+            return 4;
+        }
+        let n = near(self.w as usize, self.slices, x, y);
+        if !self.ready(at, n) {
+            return 5;
+        }
+        if !known(kind, modes, chroma_mode) {
+            return 6;
+        }
+        if !permitted(kind, modes, chroma_mode, n) {
+            return 7;
+        }
+        if !numbers.iter().all(|v| (rules::LOW..=rules::HIGH).contains(v)) {
+            return 8;
+        }
+        match kind {
+            0 => blocks_4x4(&mut self.luma, x, y, n, modes, numbers),
+            1 => blocks_8x8(&mut self.luma, x, y, n, modes, numbers),
+            _ => block_16x16(&mut self.luma, x, y, n, modes[0], numbers),
+        }
+        chroma(&mut self.cb, x, y, n, chroma_mode, &numbers[256..320]);
+        chroma(&mut self.cr, x, y, n, chroma_mode, &numbers[320..384]);
+        self.done[at] = 1;
+        self.progress.last = at as u32;
+        self.progress.count = (self.progress.count + 1).min(self.w * self.h);
+        0
+    }
+}
+
+fn known(kind: u8, modes: &[u8], chroma_mode: u8) -> bool {
+    let (used, last) = match kind {
+        0 => (16, 8),
+        1 => (4, 8),
+        2 => (1, 3),
+        _ => return false,
+    };
+    modes[..used].iter().all(|&m| m <= last) && modes[used..].iter().all(|&m| m == 0) && chroma_mode <= 3
+}
+
+fn permitted(kind: u8, modes: &[u8], chroma_mode: u8, n: Near) -> bool {
+    let whole = Marks { above: n.b, left: n.a, corner: n.d };
+    let luma = match kind {
+        0 => (0..16).all(|k| rules::permitted_nxn(modes[k], marks(LUMA_4X4_SCAN_XY[k].0, LUMA_4X4_SCAN_XY[k].1, n))),
+        1 => (0..4).all(|k| rules::permitted_nxn(modes[k], marks(k % 2, k / 2, n))),
+        _ => rules::permitted_16x16(modes[0], whole),
+    };
+    luma && rules::permitted_chroma(chroma_mode, whole)
+}
+
+/// The marks of the block in column `bx` and row `by` of a macroblock's blocks: a side has the availability of the macroblock that holds it.
+pub fn marks(bx: usize, by: usize, n: Near) -> Marks {
+    let corner = match (bx > 0, by > 0) {
+        (true, true) => true,
+        (true, false) => n.b,
+        (false, true) => n.a,
+        (false, false) => n.d,
+    };
+    Marks { above: by > 0 || n.b, left: bx > 0 || n.a, corner }
+}
+
+/// The row above, as far as `N` samples reach; the last `N / 2` repeat the one before them where they are not available.
+fn above<const N: usize>(p: &Plane, at: usize, there: bool, right: bool) -> [u8; N] {
+    let mut top = [0; N];
+    if !there {
+        return top;
+    }
+    let row = &p.samples[at - p.stride..];
+    if right {
+        top.copy_from_slice(&row[..N]);
+    } else {
+        top[..N / 2].copy_from_slice(&row[..N / 2]);
+        top[N / 2..].fill(row[N / 2 - 1]);
+    }
+    top
+}
+
+fn left<const N: usize>(p: &Plane, at: usize, there: bool) -> [u8; N] {
+    let mut column = [0; N];
+    if there {
+        for (r, v) in column.iter_mut().enumerate() {
+            *v = p.samples[at + r * p.stride - 1];
+        }
+    }
+    column
+}
+
+fn corner(p: &Plane, at: usize, there: bool) -> u8 {
+    if there {
+        p.samples[at - p.stride - 1]
+    } else {
+        0
+    }
+}
+
+fn blocks_4x4(p: &mut Plane, x: usize, y: usize, n: Near, modes: &[u8], numbers: &[i32]) {
+    for (k, &(bx, by)) in LUMA_4X4_SCAN_XY.iter().enumerate() {
+        let m = marks(bx, by, n);
+        let right = match k {
+            3 | 7 | 11 | 13 | 15 => false,
+            5 => n.c,
+            0 | 1 | 4 => n.b,
+            _ => true,
+        };
+        let at = (y * 16 + by * 4) * p.stride + x * 16 + bx * 4;
+        let top = above::<8>(p, at, m.above, right);
+        let column = left::<4>(p, at, m.left);
+        let pred = predict::intra4x4_pred(modes[k], m.above, m.left, &top, &column, corner(p, at, m.corner));
+        let deq: &[i32; 16] = numbers[16 * k..][..16].try_into().unwrap();
+        predict::reconstruct_4x4_into(deq, &pred, 0, 4, p.samples, at, p.stride);
+    }
+}
+
+fn blocks_8x8(p: &mut Plane, x: usize, y: usize, n: Near, modes: &[u8], numbers: &[i32]) {
+    for k in 0..4 {
+        let (bx, by) = (k % 2, k / 2);
+        let m = marks(bx, by, n);
+        let right = [n.b, n.c, true, false][k];
+        let at = (y * 16 + by * 8) * p.stride + x * 16 + bx * 8;
+        let top = above::<16>(p, at, m.above, right);
+        let column = left::<8>(p, at, m.left);
+        let pred = predict::intra8x8_pred(modes[k], m.above, m.left, m.corner, &top, &column, corner(p, at, m.corner));
+        let res: &[i32; 64] = numbers[64 * k..][..64].try_into().unwrap();
+        let block = predict::add_residual_8x8(res, &pred.map(i32::from));
+        for (r, row) in block.chunks_exact(8).enumerate() {
+            p.samples[at + r * p.stride..][..8].copy_from_slice(row);
+        }
+    }
+}
+
+fn block_16x16(p: &mut Plane, x: usize, y: usize, n: Near, mode: u8, numbers: &[i32]) {
+    let at = y * 16 * p.stride + x * 16;
+    let top: [u8; 16] = if n.b { p.samples[at - p.stride..][..16].try_into().unwrap() } else { [0; 16] };
+    let column = left::<16>(p, at, n.a);
+    let pred = predict::luma16x16_pred(I16Mode::from_id(mode as u32), n.b, n.a, &top, &column, corner(p, at, n.d));
+    for (k, &(bx, by)) in LUMA_4X4_SCAN_XY.iter().enumerate() {
+        let deq: &[i32; 16] = numbers[16 * k..][..16].try_into().unwrap();
+        let to = at + by * 4 * p.stride + bx * 4;
+        predict::reconstruct_4x4_into(deq, &pred, by * 64 + bx * 4, 16, p.samples, to, p.stride);
+    }
+}
+
+fn chroma(p: &mut Plane, x: usize, y: usize, n: Near, mode: u8, numbers: &[i32]) {
+    let at = y * 8 * p.stride + x * 8;
+    let top: [u8; 8] = if n.b { p.samples[at - p.stride..][..8].try_into().unwrap() } else { [0; 8] };
+    let column = left::<8>(p, at, n.a);
+    let pred = predict::chroma8x8_pred(mode, n.b, n.a, &top, &column, corner(p, at, n.d));
+    for (k, &(bx, by)) in CHROMA_4X4_SCAN_XY.iter().enumerate() {
+        let deq: &[i32; 16] = numbers[16 * k..][..16].try_into().unwrap();
+        let to = at + by * 4 * p.stride + bx * 4;
+        predict::reconstruct_4x4_into(deq, &pred, by * 32 + bx * 4, 8, p.samples, to, p.stride);
+    }
+}

@@ -1,0 +1,191 @@
+//! Each routine inside the rules' domain is the Rust's own; outside it, the refusal that the rules give.
+use crate::{intra_pred, predict, transform};
+
+pub const LOW: i32 = -32768;
+pub const HIGH: i32 = 32767;
+
+/// The marks of above, left and corner.
+#[derive(Clone, Copy, Debug, PartialEq, Eq)]
+pub struct Marks {
+    pub above: bool,
+    pub left: bool,
+    pub corner: bool,
+}
+
+impl Marks {
+    pub fn all() -> impl Iterator<Item = Marks> {
+        (0..8u8).map(|b| Marks { above: b & 1 != 0, left: b & 2 != 0, corner: b & 4 != 0 })
+    }
+}
+
+/// The modes that the rules permits for 4x4 and 8x8 luma blocks.
+pub fn permitted_nxn(mode: u8, m: Marks) -> bool {
+    match mode {
+        0 | 3 | 7 => m.above,
+        1 | 8 => m.left,
+        2 => true,
+        4..=6 => m.above && m.left && m.corner,
+        _ => false,
+    }
+}
+
+/// The same for 16x16 luma blocks.
+pub fn permitted_16x16(mode: u8, m: Marks) -> bool {
+    match mode {
+        0 => m.above,
+        1 => m.left,
+        2 => true,
+        3 => m.above && m.left && m.corner,
+        _ => false,
+    }
+}
+
+/// The same for chroma blocks.
+pub fn permitted_chroma(mode: u8, m: Marks) -> bool {
+    match mode {
+        0 => true,
+        1 => m.left,
+        2 => m.above,
+        3 => m.above && m.left && m.corner,
+        _ => false,
+    }
+}
+
+/// Bit m for each permitted mode m below `n`.
+pub fn mode_set(n: u8, permitted: impl Fn(u8) -> bool) -> u32 {
+    (0..n).filter(|&m| permitted(m)).map(|m| 1 << m).sum()
+}
+
+fn known(mode: u8, last: u8, permitted: bool) -> Result<(), u32> {
+    if mode > last {
+        return Err(6);
+    }
+    if !permitted {
+        return Err(7);
+    }
+    Ok(())
+}
+
+fn in_range(numbers: &[i32]) -> Result<(), u32> {
+    if numbers.iter().all(|n| (LOW..=HIGH).contains(n)) {
+        Ok(())
+    } else {
+        Err(8)
+    }
+}
+
+pub fn intra4x4_pred(mode: u8, m: Marks, top: &[u8; 8], left: &[u8; 4], corner: u8) -> Result<[u8; 16], u32> {
+    known(mode, 8, permitted_nxn(mode, m))?;
+    Ok(predict::intra4x4_pred(mode, m.above, m.left, top, left, corner))
+}
+
+pub fn intra8x8_pred(mode: u8, m: Marks, top: &[u8; 16], left: &[u8; 8], corner: u8) -> Result<[u8; 64], u32> {
+    known(mode, 8, permitted_nxn(mode, m))?;
+    Ok(predict::intra8x8_pred(mode, m.above, m.left, m.corner, top, left, corner))
+}
+
+pub fn luma16x16_pred(mode: u8, m: Marks, top: &[u8; 16], left: &[u8; 16], corner: u8) -> Result<[u8; 256], u32> {
+    known(mode, 3, permitted_16x16(mode, m))?;
+    Ok(predict::luma16x16_pred(predict::I16Mode::from_id(mode as u32), m.above, m.left, top, left, corner))
+}
+
+pub fn chroma8x8_pred(mode: u8, m: Marks, top: &[u8; 8], left: &[u8; 8], corner: u8) -> Result<[u8; 64], u32> {
+    known(mode, 3, permitted_chroma(mode, m))?;
+    Ok(predict::chroma8x8_pred(mode, m.above, m.left, top, left, corner))
+}
+
+// Corner, above row and left column of a block of side n at `base` lie in `len` bytes.
+fn around(n: usize, len: usize, base: usize, stride: usize) -> bool {
+    let end = |last: Option<usize>| matches!(last, Some(last) if last < len);
+    (1..=4096).contains(&stride)
+        && base > stride
+        && end((base - stride).checked_add(n - 1))
+        && end((base - 1).checked_add((n - 1) * stride))
+}
+
+pub fn i16x16_luma_pred(mode: u8, pred: &mut [u8], rec: &[u8], base: usize, stride: usize) -> Result<(), u32> {
+    if pred.len() < 256 || !around(16, rec.len(), base, stride) {
+        return Err(2);
+    }
+    if mode > 3 {
+        return Err(6);
+    }
+    intra_pred::i16x16_luma_pred(mode, pred, rec, base, stride);
+    Ok(())
+}
+
+pub fn chroma8x8_plane_pred(mode: u8, pred: &mut [u8], rec: &[u8], base: usize, stride: usize) -> Result<(), u32> {
+    if pred.len() < 64 || !around(8, rec.len(), base, stride) {
+        return Err(2);
+    }
+    if mode != 2 && mode != 3 {
+        return Err(6);
+    }
+    intra_pred::chroma8x8_pred(mode, pred, rec, base, stride);
+    Ok(())
+}
+
+pub fn inverse_4x4(deq: &[i32; 16]) -> Result<[i32; 16], u32> {
+    in_range(deq)?;
+    Ok(transform::inverse_core(deq))
+}
+
+pub fn reconstruct_4x4(deq: &[i32; 16], pred: &[i32; 16]) -> Result<[u8; 16], u32> {
+    in_range(deq)?;
+    in_range(pred)?;
+    Ok(predict::reconstruct_4x4(deq, pred))
+}
+
+pub fn add_residual_4x4(res: &[i32; 16], pred: &[i32; 16]) -> Result<[u8; 16], u32> {
+    in_range(res)?;
+    in_range(pred)?;
+    Ok(predict::add_residual_4x4(res, pred))
+}
+
+pub fn add_residual_8x8(res: &[i32; 64], pred: &[i32; 64]) -> Result<[u8; 64], u32> {
+    in_range(res)?;
+    in_range(pred)?;
+    Ok(predict::add_residual_8x8(res, pred))
+}
+
+/// Four rows of four bytes in a buffer.
+#[derive(Clone, Copy, Debug)]
+pub struct Square {
+    pub offset: usize,
+    pub stride: usize,
+}
+
+impl Square {
+    fn lies_in(self, len: usize, least: usize) -> bool {
+        (least..=4096).contains(&self.stride) && matches!(self.offset.checked_add(3 * self.stride + 4), Some(end) if end <= len)
+    }
+}
+
+fn squares(pred: &[u8], from: Square, rec: &[u8], to: Square) -> Result<(), u32> {
+    if from.lies_in(pred.len(), 0) && to.lies_in(rec.len(), 4) {
+        Ok(())
+    } else {
+        Err(2)
+    }
+}
+
+pub fn reconstruct_4x4_into(deq: &[i32; 16], pred: &[u8], from: Square, rec: &mut [u8], to: Square) -> Result<(), u32> {
+    squares(pred, from, rec, to)?;
+    in_range(deq)?;
+    predict::reconstruct_4x4_into(deq, pred, from.offset, from.stride, rec, to.offset, to.stride);
+    Ok(())
+}
+
+pub fn reconstruct_4x4_dc_into(rval: i32, pred: &[u8], from: Square, rec: &mut [u8], to: Square) -> Result<(), u32> {
+    squares(pred, from, rec, to)?;
+    in_range(&[rval])?;
+    predict::reconstruct_4x4_dc_into(rval, pred, from.offset, from.stride, rec, to.offset, to.stride);
+    Ok(())
+}
+
+pub fn add_residual_4x4_into(res: &[i32; 16], pred: &[u8], from: Square, rec: &mut [u8], to: Square) -> Result<(), u32> {
+    squares(pred, from, rec, to)?;
+    in_range(res)?;
+    predict::add_residual_4x4_into(res, pred, from.offset, from.stride, rec, to.offset, to.stride);
+    Ok(())
+}

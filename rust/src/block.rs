@@ -1,0 +1,205 @@
+//! The routines on single blocks: intra prediction (clause 8.3), the 4x4 inverse transform and clipped sums (clause 8.5), and the small
+//! tables beside them.
+use crate::{sys, Refusal};
+
+/// Which samples beside a block are available.
+#[derive(Clone, Copy, Debug, Default, PartialEq, Eq)]
+pub struct Marks {
+    /// The row above the block.
+    pub above: bool,
+    /// The column to its left.
+    pub left: bool,
+    /// The sample above its left column.
+    pub corner: bool,
+}
+
+/// A luma quantisation parameter.
+#[derive(Clone, Copy, Debug, PartialEq, Eq, PartialOrd, Ord)]
+pub struct LumaQp(pub u8);
+
+/// A chroma quantisation parameter.
+#[derive(Clone, Copy, Debug, PartialEq, Eq, PartialOrd, Ord)]
+pub struct ChromaQp(pub u8);
+
+/// `v` brought into 0..=255.
+pub fn clip_u8(v: i32) -> u8 {
+    unsafe { sys::jiwarbend_clip_u8(v) }
+}
+
+/// The chroma QP of a luma QP, with an index offset of 0. A QP above 51 is taken as 51.
+pub fn chroma_qp(qp: LumaQp) -> ChromaQp {
+    ChromaQp(unsafe { sys::jiwarbend_chroma_qp(qp.0) })
+}
+
+/// The context `nC` from the numbers of coefficients of the blocks to the left and above.
+pub fn nc_from_neighbors(a: Option<u8>, b: Option<u8>) -> i32 {
+    unsafe { sys::jiwarbend_nc_from_neighbors(a.is_some(), a.unwrap_or(0), b.is_some(), b.unwrap_or(0)) }
+}
+
+/// The numbers of coefficients of a macroblock's 24 blocks, from scan order to raster order.
+pub fn nnz_raster_from_z(n: &[u8; 24]) -> [u8; 24] {
+    let mut out = [0; 24];
+    unsafe { sys::jiwarbend_nnz_raster_from_z(n.as_ptr(), n.len(), out.as_mut_ptr(), out.len()) };
+    out
+}
+
+/// The 4x4 luma modes that the marks permit: bit m for mode m.
+pub fn permitted_4x4(marks: Marks) -> u16 {
+    unsafe { sys::jiwarbend_permitted_4x4(marks.above, marks.left, marks.corner) }
+}
+
+/// The 8x8 luma modes that the marks permit: bit m for mode m.
+pub fn permitted_8x8(marks: Marks) -> u16 {
+    unsafe { sys::jiwarbend_permitted_8x8(marks.above, marks.left, marks.corner) }
+}
+
+/// The 16x16 luma modes that the marks permit: bit m for mode m.
+pub fn permitted_16x16(marks: Marks) -> u16 {
+    unsafe { sys::jiwarbend_permitted_16x16(marks.above, marks.left, marks.corner) }
+}
+
+/// The chroma modes that the marks permit: bit m for mode m.
+pub fn permitted_chroma(marks: Marks) -> u16 {
+    unsafe { sys::jiwarbend_permitted_chroma(marks.above, marks.left, marks.corner) }
+}
+
+macro_rules! predictors {
+    ($($(#[$doc:meta])* $name:ident, $export:ident, $top:literal, $left:literal, $block:literal;)*) => {$(
+        $(#[$doc])*
+        pub fn $name(mode: u8, marks: Marks, top: &[u8; $top], left: &[u8; $left], corner: u8) -> Result<[u8; $block], Refusal> {
+            let mut out = [0; $block];
+            let answer = unsafe {
+                sys::$export(
+                    mode,
+                    marks.above,
+                    marks.left,
+                    marks.corner,
+                    top.as_ptr(),
+                    top.len(),
+                    left.as_ptr(),
+                    left.len(),
+                    corner,
+                    out.as_mut_ptr(),
+                    out.len(),
+                )
+            };
+            Refusal::check(answer).map(|()| out)
+        }
+    )*};
+}
+
+predictors! {
+    /// 4x4 luma prediction (8.3.1.2), modes 0 to 8. `top` holds the four samples above and the four above and to the right, which the
+    /// caller fills with the last one above where they are not available.
+    intra4x4_pred, jiwarbend_intra4x4_pred, 8, 4, 16;
+    /// 8x8 luma prediction (8.3.2.2), modes 0 to 8, with the neighbours filtered first. `top` holds the eight samples above and the
+    /// eight above and to the right, which the caller fills with the last one above where they are not available.
+    intra8x8_pred, jiwarbend_intra8x8_pred, 16, 8, 64;
+    /// 16x16 luma prediction (8.3.3), modes 0 to 3.
+    luma16x16_pred, jiwarbend_luma16x16_pred, 16, 16, 256;
+    /// 8x8 chroma prediction (8.3.4), modes 0 to 3.
+    chroma8x8_pred, jiwarbend_chroma8x8_pred, 8, 8, 64;
+}
+
+/// 16x16 luma prediction from the samples around place `base` of a plane, with both neighbours there, into the first 256 bytes of `pred`.
+pub fn i16x16_luma_pred(mode: u8, pred: &mut [u8], rec: &[u8], base: usize, stride: usize) -> Result<(), Refusal> {
+    Refusal::check(unsafe { sys::jiwarbend_i16x16_luma_pred(mode, pred.as_mut_ptr(), pred.len(), rec.as_ptr(), rec.len(), base, stride) })
+}
+
+/// 8x8 chroma prediction, modes 2 and 3, from the samples around place `base` of a plane, into the first 64 bytes of `pred`.
+pub fn chroma8x8_plane_pred(mode: u8, pred: &mut [u8], rec: &[u8], base: usize, stride: usize) -> Result<(), Refusal> {
+    Refusal::check(unsafe {
+        sys::jiwarbend_chroma8x8_plane_pred(mode, pred.as_mut_ptr(), pred.len(), rec.as_ptr(), rec.len(), base, stride)
+    })
+}
+
+/// The residual of sixteen dequantised coefficients (8.5.12.2).
+pub fn inverse_4x4(deq: &[i32; 16]) -> Result<[i32; 16], Refusal> {
+    let mut out = [0; 16];
+    let answer = unsafe { sys::jiwarbend_inverse_4x4(deq.as_ptr(), deq.len(), out.as_mut_ptr(), out.len()) };
+    Refusal::check(answer).map(|()| out)
+}
+
+macro_rules! sums {
+    ($($(#[$doc:meta])* $name:ident, $export:ident, $first:ident, $block:literal;)*) => {$(
+        $(#[$doc])*
+        pub fn $name($first: &[i32; $block], pred: &[i32; $block]) -> Result<[u8; $block], Refusal> {
+            let mut out = [0; $block];
+            let answer = unsafe {
+                sys::$export($first.as_ptr(), $first.len(), pred.as_ptr(), pred.len(), out.as_mut_ptr(), out.len())
+            };
+            Refusal::check(answer).map(|()| out)
+        }
+    )*};
+}
+
+sums! {
+    /// The clipped sums of a 4x4 prediction and the residual of its coefficients.
+    reconstruct_4x4, jiwarbend_reconstruct_4x4, deq, 16;
+    /// The clipped sums of a 4x4 prediction and a residual.
+    add_residual_4x4, jiwarbend_add_residual_4x4, res, 16;
+    /// The clipped sums of an 8x8 prediction and a residual.
+    add_residual_8x8, jiwarbend_add_residual_8x8, res, 64;
+}
+
+/// Four rows of four samples in a lent buffer: the first at `offset`, `stride` apart.
+#[derive(Clone, Copy, Debug, PartialEq, Eq)]
+pub struct Square {
+    /// The place of the first sample.
+    pub offset: usize,
+    /// The distance of two rows.
+    pub stride: usize,
+}
+
+/// The clipped sums of a prediction in a plane and the residual of its coefficients, written into another plane.
+pub fn reconstruct_4x4_into(deq: &[i32; 16], pred: &[u8], from: Square, rec: &mut [u8], to: Square) -> Result<(), Refusal> {
+    Refusal::check(unsafe {
+        sys::jiwarbend_reconstruct_4x4_into(
+            deq.as_ptr(),
+            deq.len(),
+            pred.as_ptr(),
+            pred.len(),
+            from.offset,
+            from.stride,
+            rec.as_mut_ptr(),
+            rec.len(),
+            to.offset,
+            to.stride,
+        )
+    })
+}
+
+/// The clipped sums of a prediction in a plane and one residual for all sixteen samples, written into another plane.
+pub fn reconstruct_4x4_dc_into(rval: i32, pred: &[u8], from: Square, rec: &mut [u8], to: Square) -> Result<(), Refusal> {
+    Refusal::check(unsafe {
+        sys::jiwarbend_reconstruct_4x4_dc_into(
+            rval,
+            pred.as_ptr(),
+            pred.len(),
+            from.offset,
+            from.stride,
+            rec.as_mut_ptr(),
+            rec.len(),
+            to.offset,
+            to.stride,
+        )
+    })
+}
+
+/// The clipped sums of a prediction in a plane and a residual, written into another plane.
+pub fn add_residual_4x4_into(res: &[i32; 16], pred: &[u8], from: Square, rec: &mut [u8], to: Square) -> Result<(), Refusal> {
+    Refusal::check(unsafe {
+        sys::jiwarbend_add_residual_4x4_into(
+            res.as_ptr(),
+            res.len(),
+            pred.as_ptr(),
+            pred.len(),
+            from.offset,
+            from.stride,
+            rec.as_mut_ptr(),
+            rec.len(),
+            to.offset,
+            to.stride,
+        )
+    })
+}

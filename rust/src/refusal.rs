@@ -1,0 +1,74 @@
+//! What a call answers when it does not do what it was asked.
+use std::fmt;
+
+/// The reasons for which a call is refused, under their numbers. Where several hold, the smallest is given, and a refused call has
+/// written nothing.
+#[derive(Clone, Copy, Debug, PartialEq, Eq, PartialOrd, Ord, Hash)]
+#[repr(u32)]
+pub enum Refusal {
+    /// The width is not 1..=120 macroblocks, or the height not 1..=68.
+    Size = 1,
+    /// A stride, plane, map or list has not the length it must have, a count exceeds the picture, or a block's rows leave its buffer.
+    Room = 2,
+    /// The macroblock lies outside the picture.
+    Place = 3,
+    /// The macroblock is done already.
+    Done = 4,
+    /// An available neighbour is not done yet: offer the macroblock again later.
+    NotReady = 5,
+    /// The kind or a mode is unknown, or an unused mode is not 0.
+    Unknown = 6,
+    /// A mode needs samples that are not available where it stands.
+    NotPermitted = 7,
+    /// A number lies outside -32768..=32767.
+    Range = 8,
+}
+
+impl Refusal {
+    /// Every refusal, in the order of its number.
+    pub const ALL: [Refusal; 8] = [
+        Refusal::Size,
+        Refusal::Room,
+        Refusal::Place,
+        Refusal::Done,
+        Refusal::NotReady,
+        Refusal::Unknown,
+        Refusal::NotPermitted,
+        Refusal::Range,
+    ];
+
+    /// The number of the refusal, 1 to 8.
+    pub fn number(self) -> u32 {
+        self as u32
+    }
+
+    /// The refusal that has this number.
+    pub fn from_number(number: u32) -> Option<Refusal> {
+        Refusal::ALL.into_iter().find(|r| r.number() == number)
+    }
+
+    /// An answer of the C functions as a result.
+    pub(crate) fn check(answer: u32) -> Result<(), Refusal> {
+        match answer {
+            0 => Ok(()),
+            n => Err(Refusal::from_number(n).expect("an answer is 0 to 8")),
+        }
+    }
+}
+
+impl fmt::Display for Refusal {
+    fn fmt(&self, f: &mut fmt::Formatter<'_>) -> fmt::Result {
+        f.write_str(match self {
+            Refusal::Size => "the picture's size is out of range",
+            Refusal::Room => "a stride, plane, map, list or count breaks the rules",
+            Refusal::Place => "the macroblock lies outside the picture",
+            Refusal::Done => "the macroblock is done",
+            Refusal::NotReady => "an available neighbour is not done",
+            Refusal::Unknown => "a kind or mode is unknown, or an unused mode is not 0",
+            Refusal::NotPermitted => "a mode is not permitted where it stands",
+            Refusal::Range => "a number is out of range",
+        })
+    }
+}
+
+impl std::error::Error for Refusal {}

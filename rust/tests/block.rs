@@ -1,0 +1,151 @@
+//! The routines on single blocks, on the rules' figures and at the edges of what is taken.
+use jiwarbend::block::*;
+use jiwarbend::Refusal;
+
+const TOP: [u8; 8] = [10, 20, 30, 40, 50, 60, 70, 80];
+const LEFT: [u8; 4] = [12, 24, 36, 48];
+
+fn marks(above: bool, left: bool, corner: bool) -> Marks {
+    Marks { above, left, corner }
+}
+
+fn sample(mode: u8, x: usize, y: usize) -> u8 {
+    intra4x4_pred(mode, marks(true, true, true), &TOP, &LEFT, 6).unwrap()[4 * y + x]
+}
+
+#[test]
+fn figures_of_4x4_prediction() {
+    let dc = |m| intra4x4_pred(2, m, &TOP, &LEFT, 6).unwrap();
+    assert_eq!(dc(marks(true, true, true)), [28; 16]);
+    assert_eq!(dc(marks(true, false, false)), [25; 16]);
+    assert_eq!(dc(marks(false, true, false)), [30; 16]);
+    assert_eq!(dc(marks(false, false, false)), [128; 16]);
+    assert_eq!((sample(3, 0, 0), sample(3, 3, 3)), (20, 78));
+    assert_eq!((sample(8, 0, 0), sample(8, 1, 0), sample(8, 1, 2), sample(8, 3, 3)), (18, 24, 45, 48));
+    assert_eq!((sample(5, 0, 0), sample(5, 0, 1), sample(5, 0, 2)), (8, 9, 14));
+    assert_eq!(sample(6, 0, 0), 9);
+}
+
+#[test]
+fn figures_of_the_larger_blocks() {
+    let chroma =
+        chroma8x8_pred(0, marks(true, true, true), &[0, 0, 0, 0, 100, 100, 100, 100], &[40, 40, 40, 40, 80, 80, 80, 80], 0).unwrap();
+    assert_eq!((chroma[0], chroma[4], chroma[32], chroma[36]), (20, 100, 80, 90));
+    let mut top = [0; 16];
+    top[8..].fill(255);
+    let plane = luma16x16_pred(3, marks(true, true, true), &top, &[0; 16], 0).unwrap();
+    assert_eq!((plane[0], plane[7], plane[15]), (0, 128, 255));
+    let mut wide = [0; 16];
+    (wide[0], wide[1]) = (10, 20);
+    let filtered = |corner| intra8x8_pred(0, marks(true, false, corner), &wide, &[0; 8], 6).unwrap()[0];
+    assert_eq!((filtered(false), filtered(true)), (13, 12));
+}
+
+#[test]
+fn figures_of_the_inverse() {
+    let residual = |places: &[(usize, i32)]| {
+        let mut c = [0; 16];
+        places.iter().for_each(|&(k, v)| c[k] = v);
+        inverse_4x4(&c).unwrap()
+    };
+    let wanted: [i32; 16] = std::array::from_fn(|k| [0, 11, 15].contains(&k) as i32);
+    assert_eq!(residual(&[(0, 31), (5, 1)]), wanted);
+    for (c, r) in [(31, 0), (32, 1), (-32, 0), (-33, -1)] {
+        assert_eq!(residual(&[(0, c)]), [r; 16]);
+    }
+}
+
+#[test]
+fn small_tables() {
+    assert_eq!([29, 30, 51, 255].map(|q| chroma_qp(LumaQp(q)).0), [29, 29, 39, 39]);
+    assert_eq!([-1, 0, 255, 256, i32::MIN, i32::MAX].map(clip_u8), [0, 0, 255, 255, 0, 255]);
+    assert_eq!(nc_from_neighbors(Some(3), Some(4)), 4);
+    assert_eq!((nc_from_neighbors(Some(3), None), nc_from_neighbors(None, Some(4)), nc_from_neighbors(None, None)), (3, 4, 0));
+    let n: [u8; 24] = std::array::from_fn(|k| k as u8);
+    assert_eq!(nnz_raster_from_z(&n)[..8], [0, 1, 4, 5, 2, 3, 6, 7]);
+}
+
+#[test]
+fn permitted_sets_agree_with_the_predictors() {
+    for bits in 0..8 {
+        let m = marks(bits & 1 != 0, bits & 2 != 0, bits & 4 != 0);
+        for mode in 0..16 {
+            let says = |set: u16, answer: Option<Refusal>, last: u8| {
+                let wanted = if mode > last {
+                    Some(Refusal::Unknown)
+                } else if set >> mode & 1 == 0 {
+                    Some(Refusal::NotPermitted)
+                } else {
+                    None
+                };
+                assert_eq!(answer, wanted, "mode {mode}, marks {m:?}");
+                assert_eq!(set >> (last + 1), 0);
+            };
+            says(permitted_4x4(m), intra4x4_pred(mode, m, &TOP, &LEFT, 6).err(), 8);
+            says(permitted_8x8(m), intra8x8_pred(mode, m, &[9; 16], &[9; 8], 9).err(), 8);
+            says(permitted_16x16(m), luma16x16_pred(mode, m, &[9; 16], &[9; 16], 9).err(), 3);
+            says(permitted_chroma(m), chroma8x8_pred(mode, m, &[9; 8], &[9; 8], 9).err(), 3);
+        }
+    }
+}
+
+#[test]
+fn sums_clip_and_refuse() {
+    assert_eq!(add_residual_4x4(&[300; 16], &[-10; 16]), Ok([255; 16]));
+    assert_eq!(add_residual_8x8(&[-300; 64], &[10; 64]), Ok([0; 64]));
+    assert_eq!(reconstruct_4x4(&[0; 16], &[77; 16]), Ok([77; 16]));
+    assert_eq!(add_residual_4x4(&[32768; 16], &[0; 16]), Err(Refusal::Range));
+    assert_eq!(add_residual_8x8(&[0; 64], &[-32769; 64]), Err(Refusal::Range));
+    assert_eq!(reconstruct_4x4(&[i32::MIN; 16], &[0; 16]), Err(Refusal::Range));
+    assert_eq!(inverse_4x4(&[i32::MAX; 16]), Err(Refusal::Range));
+}
+
+#[test]
+fn blocks_into_a_plane() {
+    let pred = [100; 16];
+    let from = Square { offset: 0, stride: 4 };
+    let to = Square { offset: 11, stride: 10 };
+    let put = |call: &dyn Fn(&mut [u8]) -> Result<(), Refusal>| {
+        let mut rec = vec![1; 60];
+        call(&mut rec).unwrap();
+        for (i, &v) in rec.iter().enumerate() {
+            let inside = (1..5).contains(&(i / 10)) && (1..5).contains(&(i % 10));
+            assert_eq!(v, if inside { 103 } else { 1 });
+        }
+    };
+    let mut flat = [0; 16];
+    flat[0] = 3 * 64;
+    put(&|rec| reconstruct_4x4_into(&flat, &pred, from, rec, to));
+    put(&|rec| reconstruct_4x4_dc_into(3, &pred, from, rec, to));
+    put(&|rec| add_residual_4x4_into(&[3; 16], &pred, from, rec, to));
+
+    let mut rec = vec![1; 45];
+    let refused = |rec: &mut [u8], from, to| add_residual_4x4_into(&[3; 16], &pred, from, rec, to).unwrap_err();
+    assert_eq!(refused(&mut rec, from, Square { offset: 12, stride: 10 }), Refusal::Room);
+    assert_eq!(refused(&mut rec, from, Square { offset: usize::MAX, stride: 10 }), Refusal::Room);
+    assert_eq!(refused(&mut rec, from, Square { offset: 0, stride: 3 }), Refusal::Room);
+    assert_eq!(refused(&mut rec, Square { offset: 1, stride: 4 }, to), Refusal::Room);
+    assert_eq!(refused(&mut rec, Square { offset: 0, stride: 4097 }, to), Refusal::Room);
+    assert_eq!(reconstruct_4x4_dc_into(32768, &pred, from, &mut rec, Square { offset: 11, stride: 10 }), Err(Refusal::Range));
+    assert_eq!(rec, vec![1; 45]);
+}
+
+#[test]
+fn predictions_from_a_plane() {
+    let rec: Vec<u8> = (0..32 * 20).map(|i| (i % 251) as u8).collect();
+    let base = 33;
+    let mut pred = [9; 300];
+    i16x16_luma_pred(0, &mut pred, &rec, base, 32).unwrap();
+    for y in 0..16 {
+        assert_eq!(pred[16 * y..][..16], rec[1..17]);
+    }
+    assert!(pred[256..].iter().all(|&v| v == 9));
+    chroma8x8_plane_pred(2, &mut pred, &rec, base, 32).unwrap();
+    assert_eq!(pred[56..64], rec[1..9]);
+    assert_eq!(i16x16_luma_pred(4, &mut pred, &rec, base, 32), Err(Refusal::Unknown));
+    assert_eq!(chroma8x8_plane_pred(0, &mut pred, &rec, base, 32), Err(Refusal::Unknown));
+    assert_eq!(i16x16_luma_pred(0, &mut pred, &rec, 32, 32), Err(Refusal::Room));
+    assert_eq!(i16x16_luma_pred(0, &mut pred[..255], &rec, base, 32), Err(Refusal::Room));
+    assert_eq!(i16x16_luma_pred(0, &mut pred, &rec, base, 0), Err(Refusal::Room));
+    assert_eq!(i16x16_luma_pred(0, &mut pred, &rec, usize::MAX, 4096), Err(Refusal::Room));
+}

@@ -1,0 +1,263 @@
+//! Pictures as a service uses them: every refusal, any order, several threads.
+use jiwarbend::{Lent, LentPlane, Picture, Progress, Record, Refusal};
+use std::sync::{Condvar, Mutex};
+
+/// A small generator of numbers, so that a failing run can be repeated.
+struct Numbers(u64);
+
+impl Numbers {
+    fn below(&mut self, n: u32) -> u32 {
+        self.0 = self.0.wrapping_mul(6364136223846793005).wrapping_add(1442695040888963407);
+        ((self.0 >> 33) as u32) % n
+    }
+}
+
+/// An acceptable record for any place: DC prediction, and some coefficients or residual samples.
+fn record(numbers: &mut Numbers) -> Record {
+    let mut r = Record { kind: numbers.below(3) as u8, ..Record::default() };
+    let used = [16, 4, 1][r.kind as usize];
+    r.modes[..used].fill(2);
+    for _ in 0..40 {
+        r.numbers[numbers.below(384) as usize] = numbers.below(4001) as i32 - 2000;
+    }
+    r
+}
+
+fn records(w: u32, h: u32, seed: u64) -> Vec<Record> {
+    let mut numbers = Numbers(seed);
+    (0..w * h).map(|_| record(&mut numbers)).collect()
+}
+
+fn slices(w: u32, h: u32) -> Vec<u16> {
+    (0..w * h).map(|a| (a / (w * h / 3 + 1)) as u16).collect()
+}
+
+fn in_raster_order(w: u32, h: u32, records: &[Record]) -> Picture {
+    let mut picture = Picture::with_slices(w, h, slices(w, h)).unwrap();
+    for (a, record) in records.iter().enumerate() {
+        picture.rebuild(a as u32 % w, a as u32 / w, record).unwrap();
+    }
+    picture
+}
+
+fn same_planes(a: &Picture, b: &Picture) -> bool {
+    a.luma() == b.luma() && a.cb() == b.cb() && a.cr() == b.cr()
+}
+
+#[test]
+fn a_picture_is_the_same_in_any_order() {
+    let (w, h) = (7, 5);
+    let records = records(w, h, 1);
+    let wanted = in_raster_order(w, h, &records);
+    let mut numbers = Numbers(2);
+    for _ in 0..20 {
+        let mut picture = Picture::with_slices(w, h, slices(w, h)).unwrap();
+        while !picture.is_finished() {
+            let a = numbers.below(w * h);
+            let (x, y) = (a % w, a / w);
+            let done = picture.is_done(x, y);
+            match picture.rebuild(x, y, &records[a as usize]) {
+                Ok(()) => assert!(!done),
+                Err(Refusal::Done) => assert!(done),
+                Err(refusal) => assert_eq!(refusal, Refusal::NotReady),
+            }
+            if let Some((x, y)) = picture.first_undone().filter(|_| numbers.below(4) == 0) {
+                picture.rebuild(x, y, &records[(y * w + x) as usize]).unwrap();
+            }
+        }
+        assert!(same_planes(&picture, &wanted));
+    }
+}
+
+#[test]
+fn threads_hand_macroblocks_in() {
+    let (w, h) = (12, 9);
+    let records = records(w, h, 3);
+    let wanted = in_raster_order(w, h, &records);
+    let shared = Mutex::new(Picture::with_slices(w, h, slices(w, h)).unwrap());
+    let moved = Condvar::new();
+    std::thread::scope(|scope| {
+        for thread in 0..4 {
+            let (shared, moved, records) = (&shared, &moved, &records);
+            scope.spawn(move || {
+                // Each thread has every fourth macroblock, from the last to the first, and waits while none of them is ready.
+                let mut mine: Vec<u32> = (0..w * h).filter(|a| a % 4 == thread).rev().collect();
+                let mut picture = shared.lock().unwrap();
+                while !mine.is_empty() {
+                    let before = mine.len();
+                    mine.retain(|&a| match picture.rebuild(a % w, a / w, &records[a as usize]) {
+                        Ok(()) => false,
+                        Err(refusal) => {
+                            assert_eq!(refusal, Refusal::NotReady);
+                            true
+                        }
+                    });
+                    if mine.len() < before {
+                        moved.notify_all();
+                    } else {
+                        picture = moved.wait(picture).unwrap();
+                    }
+                }
+            });
+        }
+    });
+    let picture = shared.into_inner().unwrap();
+    assert!(picture.is_finished());
+    assert!(same_planes(&picture, &wanted));
+}
+
+/// Memory of a picture of 2 by 2 macroblocks with padding, which a test may bend out of shape.
+struct Memory {
+    w: u32,
+    h: u32,
+    planes: [Vec<u8>; 3],
+    strides: [usize; 3],
+    done: Vec<u8>,
+    slices: Vec<u16>,
+    progress: Progress,
+}
+
+impl Memory {
+    fn new() -> Memory {
+        Memory {
+            w: 2,
+            h: 2,
+            planes: [vec![7; 40 * 32], vec![7; 20 * 16], vec![7; 20 * 16]],
+            strides: [40, 20, 20],
+            done: vec![0; 4],
+            slices: vec![0; 4],
+            progress: Progress::default(),
+        }
+    }
+
+    fn lend(&mut self) -> Lent<'_> {
+        let [luma, cb, cr] = &mut self.planes;
+        Lent {
+            w: self.w,
+            h: self.h,
+            luma: LentPlane { samples: luma, stride: self.strides[0] },
+            cb: LentPlane { samples: cb, stride: self.strides[1] },
+            cr: LentPlane { samples: cr, stride: self.strides[2] },
+            done: &mut self.done,
+            slices: &self.slices,
+            progress: &mut self.progress,
+        }
+    }
+
+    /// Offers a macroblock that is refused, and sees that nothing has changed.
+    fn refused(&mut self, x: u32, y: u32, record: &Record) -> Refusal {
+        let before = (self.planes.clone(), self.done.clone(), self.progress);
+        let refusal = self.lend().rebuild(x, y, record).unwrap_err();
+        assert_eq!((self.planes.clone(), self.done.clone(), self.progress), before);
+        refusal
+    }
+}
+
+fn flat() -> Record {
+    Record {
+        kind: 2,
+        modes: {
+            let mut m = [0; 16];
+            m[0] = 2;
+            m
+        },
+        ..Record::default()
+    }
+}
+
+#[test]
+fn every_refusal_has_its_number() {
+    let good = flat();
+    let bent = |bend: &dyn Fn(&mut Memory)| {
+        let mut memory = Memory::new();
+        bend(&mut memory);
+        memory.refused(0, 0, &good)
+    };
+    assert_eq!(bent(&|m| m.w = 0), Refusal::Size);
+    assert_eq!(bent(&|m| m.w = 121), Refusal::Size);
+    assert_eq!(bent(&|m| m.h = 69), Refusal::Size);
+    assert_eq!(bent(&|m| m.strides[0] = 31), Refusal::Room);
+    assert_eq!(bent(&|m| m.strides[1] = 4097), Refusal::Room);
+    assert_eq!(bent(&|m| m.planes[2].truncate(20 * 15 + 15)), Refusal::Room);
+    assert_eq!(bent(&|m| m.done.push(0)), Refusal::Room);
+    assert_eq!(bent(&|m| m.slices.truncate(3)), Refusal::Room);
+    assert_eq!(bent(&|m| m.progress.count = 5), Refusal::Room);
+    assert_eq!(bent(&|m| m.done[0] = 1), Refusal::Done);
+
+    let mut memory = Memory::new();
+    assert_eq!(memory.refused(2, 0, &good), Refusal::Place);
+    assert_eq!(memory.refused(0, 2, &good), Refusal::Place);
+    assert_eq!(memory.refused(1, 0, &good), Refusal::NotReady);
+    assert_eq!(memory.refused(0, 0, &Record { kind: 3, ..flat() }), Refusal::Unknown);
+    assert_eq!(memory.refused(0, 0, &Record { chroma_mode: 4, ..flat() }), Refusal::Unknown);
+    assert_eq!(memory.refused(0, 0, &Record { modes: [2; 16], ..flat() }), Refusal::Unknown);
+    assert_eq!(memory.refused(0, 0, &Record { chroma_mode: 3, ..flat() }), Refusal::NotPermitted);
+    assert_eq!(memory.refused(0, 0, &Record { modes: [0; 16], ..flat() }), Refusal::NotPermitted);
+    let mut wide = flat();
+    wide.numbers[383] = 32768;
+    assert_eq!(memory.refused(0, 0, &wide), Refusal::Range);
+    wide.numbers[383] = 32767;
+    assert_eq!(memory.lend().rebuild(0, 0, &wide), Ok(()));
+
+    let mut lent = memory.lend();
+    assert_eq!(lent.rebuild_from(1, 0, 2, &[2; 15], 0, &[0; 384]), Err(Refusal::Room));
+    assert_eq!(lent.rebuild_from(1, 0, 2, &good.modes, 0, &[0; 385]), Err(Refusal::Room));
+}
+
+#[test]
+fn the_smallest_refusal_is_given() {
+    let mut memory = Memory::new();
+    let bad = Record { kind: 9, chroma_mode: 3, numbers: [i32::MIN; 384], ..Record::default() };
+    let mut answers = Vec::new();
+    answers.push(memory.refused(0, 0, &Record { kind: 0, modes: [2; 16], ..bad.clone() }));
+    answers.push(memory.refused(0, 0, &bad));
+    answers.push(memory.refused(1, 0, &bad));
+    memory.done[1] = 1;
+    answers.push(memory.refused(1, 0, &bad));
+    answers.push(memory.refused(9, 0, &bad));
+    memory.slices.clear();
+    answers.push(memory.refused(9, 0, &bad));
+    memory.w = 500;
+    answers.push(memory.refused(9, 0, &bad));
+    let numbers: Vec<u32> = answers.iter().map(|r| r.number()).collect();
+    assert_eq!(numbers, [7, 6, 5, 4, 3, 2, 1]);
+}
+
+#[test]
+fn starting_clears_the_map_and_the_progress() {
+    let mut memory = Memory::new();
+    memory.done = vec![1, 9, 0, 1];
+    memory.progress = Progress { count: 77, last: 3 };
+    memory.lend().start().unwrap();
+    assert_eq!((memory.done.clone(), memory.progress), (vec![0; 4], Progress::default()));
+
+    memory.done = vec![5; 3];
+    assert_eq!(memory.lend().start(), Err(Refusal::Room));
+    memory.h = 0;
+    assert_eq!(memory.lend().start(), Err(Refusal::Size));
+    assert_eq!(memory.done, vec![5; 3]);
+}
+
+#[test]
+fn padding_is_left_alone_and_counts_follow() {
+    let mut memory = Memory::new();
+    for a in 0..4 {
+        memory.lend().rebuild(a % 2, a / 2, &flat()).unwrap();
+        assert_eq!(memory.progress, Progress { count: a + 1, last: a });
+    }
+    for (plane, (stride, width)) in memory.planes.iter().zip([(40, 32), (20, 16), (20, 16)]) {
+        for row in plane.chunks(stride) {
+            assert!(row[..width].iter().all(|&v| v == 128));
+            assert!(row[width..].iter().all(|&v| v == 7));
+        }
+    }
+}
+
+#[test]
+fn a_picture_that_cannot_be_is_refused_when_it_is_made() {
+    assert_eq!(Picture::new(u32::MAX, u32::MAX).unwrap_err(), Refusal::Size);
+    assert_eq!(Picture::with_slices(2, 2, vec![0; 5]).unwrap_err(), Refusal::Room);
+    assert_eq!(Picture::with_strides(2, 2, vec![0; 4], 31, 16).unwrap_err(), Refusal::Room);
+    assert_eq!(Picture::with_strides(2, 2, vec![0; 4], 32, 4097).unwrap_err(), Refusal::Room);
+    assert!(Picture::with_strides(120, 68, vec![0; 120 * 68], 4096, 960).is_ok());
+}
