@@ -87,6 +87,14 @@ uint32_t jiwarbend_luma16x16_pred(uint8_t mode, bool avail_top, bool avail_left,
 uint32_t jiwarbend_chroma8x8_pred(uint8_t mode, bool avail_top, bool avail_left, bool avail_corner, const uint8_t *top, size_t top_len,
     const uint8_t *left, size_t left_len, uint8_t corner, uint8_t *out, size_t out_len);
 
+/* DC alone, which no marks refuse. The one sample that fills a luma 16x16 block: top 16, left 16, out 1. */
+uint32_t jiwarbend_luma16x16_dc(bool avail_top, bool avail_left, const uint8_t *top, size_t top_len, const uint8_t *left, size_t left_len,
+    uint8_t *out, size_t out_len);
+
+/* A chroma 8x8 block: top 8, left 8, out 64. */
+uint32_t jiwarbend_chroma8x8_dc(bool avail_top, bool avail_left, const uint8_t *top, size_t top_len, const uint8_t *left, size_t left_len,
+    uint8_t *out, size_t out_len);
+
 /* Luma 16x16, modes 0..3, from the samples around place base of a plane, both neighbours there, into the first 256 bytes of pred; those
    beyond keep what they held. 2 unless the stride is 1..4096, corner, above row and left column lie in rec, and pred has 256 bytes. */
 uint32_t jiwarbend_i16x16_luma_pred(uint8_t mode, uint8_t *pred, size_t pred_len, const uint8_t *rec, size_t rec_len, size_t base, size_t stride);

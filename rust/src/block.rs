@@ -101,6 +101,22 @@ predictors! {
     chroma8x8_pred, jiwarbend_chroma8x8_pred, 8, 8, 64;
 }
 
+/// The one sample that fills a 16x16 luma block in DC mode (8.3.3.3). The mark of the corner says nothing here.
+pub fn luma16x16_dc(marks: Marks, top: &[u8; 16], left: &[u8; 16]) -> u8 {
+    let mut out = [0; 1];
+    let (t, l) = (top.as_ptr(), left.as_ptr());
+    unsafe { sys::jiwarbend_luma16x16_dc(marks.above, marks.left, t, top.len(), l, left.len(), out.as_mut_ptr(), out.len()) };
+    out[0]
+}
+
+/// The 8x8 chroma block of DC mode (8.3.4.1). The mark of the corner says nothing here.
+pub fn chroma8x8_dc(marks: Marks, top: &[u8; 8], left: &[u8; 8]) -> [u8; 64] {
+    let mut out = [0; 64];
+    let (t, l) = (top.as_ptr(), left.as_ptr());
+    unsafe { sys::jiwarbend_chroma8x8_dc(marks.above, marks.left, t, top.len(), l, left.len(), out.as_mut_ptr(), out.len()) };
+    out
+}
+
 /// 16x16 luma prediction from the samples around place `base` of a plane, with both neighbours there, into the first 256 bytes of `pred`.
 pub fn i16x16_luma_pred(mode: u8, pred: &mut [u8], rec: &[u8], base: usize, stride: usize) -> Result<(), Refusal> {
     Refusal::check(unsafe { sys::jiwarbend_i16x16_luma_pred(mode, pred.as_mut_ptr(), pred.len(), rec.as_ptr(), rec.len(), base, stride) })

@@ -100,6 +100,26 @@ extern "C" {
         out: *mut u8,
         out_len: usize,
     ) -> u32;
+    pub fn jiwarbend_luma16x16_dc(
+        avail_top: bool,
+        avail_left: bool,
+        top: *const u8,
+        top_len: usize,
+        left: *const u8,
+        left_len: usize,
+        out: *mut u8,
+        out_len: usize,
+    ) -> u32;
+    pub fn jiwarbend_chroma8x8_dc(
+        avail_top: bool,
+        avail_left: bool,
+        top: *const u8,
+        top_len: usize,
+        left: *const u8,
+        left_len: usize,
+        out: *mut u8,
+        out_len: usize,
+    ) -> u32;
     pub fn jiwarbend_i16x16_luma_pred(
         mode: u8,
         pred: *mut u8,

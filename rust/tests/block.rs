@@ -42,6 +42,21 @@ fn figures_of_the_larger_blocks() {
 }
 
 #[test]
+fn dc_alone_is_the_mode() {
+    let (top, left): ([u8; 16], [u8; 16]) = (std::array::from_fn(|k| 10 * k as u8), std::array::from_fn(|k| 255 - k as u8));
+    let sample = |above, beside| luma16x16_dc(marks(above, beside, false), &top, &left);
+    assert_eq!([sample(true, true), sample(true, false), sample(false, true), sample(false, false)], [161, 75, 248, 128]);
+    let (short, low) = ([0, 0, 0, 0, 100, 100, 100, 100], [40, 40, 40, 40, 80, 80, 80, 80]);
+    for bits in 0..8 {
+        let m = marks(bits & 1 != 0, bits & 2 != 0, bits & 4 != 0);
+        assert_eq!(luma16x16_pred(2, m, &top, &left, 6), Ok([luma16x16_dc(m, &top, &left); 256]));
+        assert_eq!(chroma8x8_pred(0, m, &short, &low, 6), Ok(chroma8x8_dc(m, &short, &low)));
+    }
+    let chroma = chroma8x8_dc(marks(true, true, false), &short, &low);
+    assert_eq!((chroma[0], chroma[4], chroma[32], chroma[36]), (20, 100, 80, 90));
+}
+
+#[test]
 fn figures_of_the_inverse() {
     let residual = |places: &[(usize, i32)]| {
         let mut c = [0; 16];

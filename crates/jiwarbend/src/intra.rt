@@ -5,10 +5,10 @@ ghost use lib.Dec.{leb};
 ghost use Rattle.laws.specs.Answer.{_unless_, answer, written};
 ghost use Rattle.laws.specs.Table.{blockOf};
 ghost use Rattle.samples.specs.Intra16x16.{predL};
-ghost use Rattle.samples.specs.IntraChroma.{predC};
+ghost use Rattle.samples.specs.IntraChroma.{chromaDc, predC};
 ghost use Rattle.samples.specs.IntraNxN.{pred4x4L, pred8x8L};
 ghost use Rattle.samples.specs.Marks.{permittedNxN, permitted16x16, permittedChroma};
-ghost use Rattle.samples.specs.Near.{near};
+ghost use Rattle.samples.specs.Near.{near, dc};
 ghost use Rattle.jiwarbend.specs.Exports.{_has_};
 
 #[no_mangle]
@@ -165,4 +165,59 @@ pub extern "C" fn jiwarbend_chroma8x8_pred(
     let block = r.block;
     crate::lists::leave(out, r.answer, &block);
     r.answer
+}
+
+#[no_mangle]
+pub extern "C" fn jiwarbend_luma16x16_dc(
+    avail_top: bool,
+    avail_left: bool,
+    top: &[u8],
+    left: &[u8],
+    out: &mut [u8],
+) -> u32
+    ensures { λ r. ⌜ r ≡ answer (2 unless now (top .entry) has 16 ∷ 2 unless now (left .entry) has 16 ∷ 2 unless now (out .entry) has 1 ∷ []) ⌝ }
+    ensures { λ r. ⌜ now (out .exit) ≡ written r (now (out .entry)) (dc 16 «avail_top» «avail_left» (near (now (top .entry)) (now (left .entry)) 0) ∷ []) ⌝ }
+{
+    if top.len() != 16 {
+        return 2;
+    }
+    if left.len() != 16 {
+        return 2;
+    }
+    if out.len() != 1 {
+        return 2;
+    }
+    let above = crate::lists::bytes16(top);
+    let beside = crate::lists::bytes16(left);
+    let sample = samples::intra_16x16::luma16x16_dc(avail_top, avail_left, &above, &beside);
+    let block = [sample];
+    crate::lists::leave(out, 0, &block);
+    0
+}
+
+#[no_mangle]
+pub extern "C" fn jiwarbend_chroma8x8_dc(
+    avail_top: bool,
+    avail_left: bool,
+    top: &[u8],
+    left: &[u8],
+    out: &mut [u8],
+) -> u32
+    ensures { λ r. ⌜ r ≡ answer (2 unless now (top .entry) has 8 ∷ 2 unless now (left .entry) has 8 ∷ 2 unless now (out .entry) has 64 ∷ []) ⌝ }
+    ensures { λ r. ⌜ now (out .exit) ≡ written r (now (out .entry)) (blockOf 8 (chromaDc «avail_top» «avail_left» (near (now (top .entry)) (now (left .entry)) 0))) ⌝ }
+{
+    if top.len() != 8 {
+        return 2;
+    }
+    if left.len() != 8 {
+        return 2;
+    }
+    if out.len() != 64 {
+        return 2;
+    }
+    let above = crate::lists::bytes8(top);
+    let beside = crate::lists::bytes8(left);
+    let block = samples::intra_chroma::chroma8x8_dc(avail_top, avail_left, &above, &beside);
+    crate::lists::leave(out, 0, &block);
+    0
 }

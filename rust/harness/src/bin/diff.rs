@@ -154,6 +154,40 @@ fn predictor<const T: usize, const L: usize, const B: usize>(
     }
 }
 
+type Mean = unsafe extern "C" fn(bool, bool, *const u8, usize, *const u8, usize, *mut u8, usize) -> u32;
+
+fn mean<const N: usize, const B: usize>(
+    report: &mut Report,
+    name: &'static str,
+    export: Mean,
+    rust: impl Fn(bool, bool, &[u8; N], &[u8; N]) -> [u8; B],
+) {
+    let rounds = report.many(300_000);
+    let mut routine = report.routine(name);
+    let mut random = Random::new(12);
+    let (mut top, mut left) = ([0; N], [0; N]);
+    let call = |above, beside, top: &[u8], left: &[u8], len: usize| {
+        let mut buffer = guarded(len);
+        let out = inner(&mut buffer);
+        let (t, l) = (top.as_ptr(), left.as_ptr());
+        let answer = unsafe { export(above, beside, t, top.len(), l, left.len(), out.as_mut_ptr(), out.len()) };
+        (answer, buffer)
+    };
+    for _ in 0..rounds {
+        random.samples(&mut top);
+        random.samples(&mut left);
+        for (above, beside) in [(false, false), (false, true), (true, false), (true, true)] {
+            let wanted = left_behind(B, Ok(rust(above, beside, &top, &left)));
+            routine.told(call(above, beside, &top, &left, B), wanted, || format!("{above} {top:?}, {beside} {left:?}"));
+        }
+    }
+    let bytes = [9; 40];
+    for (t, l, b) in lengths(&mut random, [N, N, B]) {
+        let wanted = if (t, l, b) == (N, N, B) { left_behind(B, Ok([9; B])) } else { (2, guarded(b)) };
+        routine.told(call(true, true, &bytes[..t], &bytes[..l], b), wanted, || format!("lengths {t}, {l}, {b}"));
+    }
+}
+
 /// Lengths at and around the right ones.
 fn lengths(random: &mut Random, right: [usize; 3]) -> Vec<(usize, usize, usize)> {
     let mut around = |n: usize| match random.below(6) {
@@ -555,6 +589,8 @@ fn main() {
     predictor(&mut report, "intra8x8_pred", jiwarbend_intra8x8_pred, rules::intra8x8_pred);
     predictor(&mut report, "luma16x16_pred", jiwarbend_luma16x16_pred, rules::luma16x16_pred);
     predictor(&mut report, "chroma8x8_pred", jiwarbend_chroma8x8_pred, rules::chroma8x8_pred);
+    mean(&mut report, "luma16x16_dc", jiwarbend_luma16x16_dc, |above, beside, top, left| [predict::luma16x16_dc(above, beside, top, left)]);
+    mean(&mut report, "chroma8x8_dc", jiwarbend_chroma8x8_dc, predict::chroma8x8_dc);
     from_plane(&mut report, "i16x16_luma_pred", 16, jiwarbend_i16x16_luma_pred, rules::i16x16_luma_pred);
     from_plane(&mut report, "chroma8x8_plane_pred", 8, jiwarbend_chroma8x8_plane_pred, rules::chroma8x8_plane_pred);
     inverse(&mut report);
