@@ -5,7 +5,7 @@
 # make diff        the port against the Rust it was ported from, call by call
 # make diff-x86-64 the same against the x86-64 archive under an emulator, on a machine of another kind
 # make oracle-list the fixed list of the Rust's answers, made anew
-# make bench       the port and the Rust side by side; writes target/bench/
+# make bench       the port and the Rust side by side; writes target/bench/, with instructions where valgrind is installed
 #
 # ORACLE is the folder of the Rust that was ported (diff, oracle-list, bench).
 ORACLE ?= ../shared/docs/src

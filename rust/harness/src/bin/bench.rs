@@ -1,6 +1,7 @@
 //! The port and the Rust side by side in one run, on the same inputs, and beside them the Rust behind the port's checks. They are timed in
 //! turns, many times; what is told is the median of the ratios with the quartiles around it. With a folder as its argument it writes
-//! a table and a plot there.
+//! a table and a plot there. Where valgrind is installed the table also has the instructions of each side: valgrind runs this program
+//! again with `count`, which makes each call a fixed number of times and times nothing.
 use harness::{good_records, slice_map, Memory, Random, Record};
 use jiwarbend::sys::*;
 use oracle::predict::{self, I16Mode};
@@ -8,20 +9,25 @@ use oracle::rules::{self, Marks, Square};
 use oracle::{intra_pred, transform};
 use std::fmt::Write;
 use std::hint::black_box;
+use std::path::Path;
+use std::process::{Command, Stdio};
 use std::time::Instant;
 
 const ROUNDS: usize = 41;
 const INPUTS: usize = 256;
 
+#[derive(Default)]
 struct Row {
     group: &'static str,
     name: String,
+    per: f64,
     rust: f64,
     checked: f64,
     port: f64,
     low: f64,
     ratio: f64,
     high: f64,
+    instructions: Option<[f64; 3]>,
 }
 
 fn nanoseconds(calls: usize, f: &mut dyn FnMut(usize)) -> f64 {
@@ -39,8 +45,66 @@ fn median(values: &mut [f64], share: f64) -> f64 {
 
 type Timed<'a> = &'a mut dyn FnMut(usize);
 
+fn counting() -> bool {
+    std::env::args().nth(1).as_deref() == Some("count")
+}
+
+/// How many calls are counted: one for each input, or one whole picture.
+fn counted(per: f64) -> usize {
+    if per > 1.0 {
+        1
+    } else {
+        INPUTS
+    }
+}
+
+/// Where it is entered, valgrind writes down the instructions since the last time. It knows the function by its name.
+#[no_mangle]
+#[inline(never)]
+fn counted_mark() {
+    black_box(());
+}
+
+fn counted_calls(calls: usize, f: &mut dyn FnMut(usize)) {
+    counted_mark();
+    for i in 0..calls {
+        f(i % INPUTS);
+    }
+    counted_mark();
+}
+
+/// The instructions of each run of `counted_calls`, in their order, or nothing where there is no valgrind.
+fn instructions(folder: &Path) -> Option<Vec<f64>> {
+    Command::new("valgrind").arg("--version").stdout(Stdio::null()).status().ok()?;
+    let counts = folder.join("counts");
+    let _ = std::fs::remove_dir_all(&counts);
+    std::fs::create_dir_all(&counts).unwrap();
+    let status = Command::new("valgrind")
+        .args(["--quiet", "--tool=callgrind", "--dump-before=counted_mark"])
+        .arg(format!("--callgrind-out-file={}", counts.join("run").display()))
+        .arg(std::env::current_exe().unwrap())
+        .arg("count")
+        .status()
+        .unwrap();
+    if !status.success() {
+        println!("no instructions: valgrind ended with {status}");
+        return None;
+    }
+    let since_last = |k: usize| {
+        let text = std::fs::read_to_string(counts.join(format!("run.{k}"))).ok()?;
+        text.lines().find_map(|line| line.strip_prefix("summary: ")?.parse().ok())
+    };
+    Some((2..).step_by(2).map_while(since_last).collect())
+}
+
 /// Times the three in turns, in batches of about a millisecond, each of `per` units of work.
 fn compare(group: &'static str, name: String, per: f64, rust: Timed, checked: Timed, port: Timed) -> Row {
+    if counting() {
+        counted_calls(counted(per), rust);
+        counted_calls(counted(per), checked);
+        counted_calls(counted(per), port);
+        return Row { group, name, per, ..Row::default() };
+    }
     let once = nanoseconds(1, rust).max(nanoseconds(1, rust)).max(1.0);
     let calls = ((1e6 / once) as usize).clamp(1, 20_000);
     let (mut rusts, mut checks, mut ports, mut ratios) = (Vec::new(), Vec::new(), Vec::new(), Vec::new());
@@ -63,12 +127,14 @@ fn compare(group: &'static str, name: String, per: f64, rust: Timed, checked: Ti
     let row = Row {
         group,
         name,
+        per,
         rust: median(&mut rusts, 0.5),
         checked: median(&mut checks, 0.5),
         port: median(&mut ports, 0.5),
         low: median(&mut ratios, 0.25),
         ratio: median(&mut ratios, 0.5),
         high: median(&mut ratios, 0.75),
+        instructions: None,
     };
     println!(
         "{:<30} Rust {:>8.1} ns, with checks {:>8.1} ns, port {:>8.1} ns: {:.2} of the Rust ({:.2} to {:.2})",
@@ -142,6 +208,37 @@ fn predictor<const T: usize, const L: usize, const B: usize>(
     (0..modes).map(one).collect()
 }
 
+type Mean = unsafe extern "C" fn(bool, bool, *const u8, usize, *const u8, usize, *mut u8, usize) -> u32;
+
+/// DC alone. Arrays and marks of any values are taken, so that the Rust needs no checks.
+fn mean<const N: usize, const B: usize>(
+    inputs: &Inputs,
+    name: &str,
+    export: Mean,
+    rust: impl Fn(bool, bool, &[u8; N], &[u8; N]) -> [u8; B],
+) -> Row {
+    let (mut ours, mut theirs, mut last) = ([0; B], [0; B], [0; B]);
+    compare(
+        "prediction",
+        name.into(),
+        1.0,
+        &mut |i| {
+            theirs = rust(black_box(true), black_box(true), inputs.part(i, 0), inputs.part(i, N));
+            black_box(&theirs);
+        },
+        &mut |i| {
+            last = rust(black_box(true), black_box(true), inputs.part(i, 0), inputs.part(i, N));
+            black_box(&last);
+        },
+        &mut |i| {
+            let (top, left): (&[u8; N], &[u8; N]) = (inputs.part(i, 0), inputs.part(i, N));
+            let (t, l, o) = (top.as_ptr(), left.as_ptr(), ours.as_mut_ptr());
+            let answer = unsafe { export(black_box(true), black_box(true), t, N, l, N, o, B) };
+            black_box((answer, &ours));
+        },
+    )
+}
+
 type FromPlane = unsafe extern "C" fn(u8, *mut u8, usize, *const u8, usize, usize, usize) -> u32;
 
 fn from_plane<const B: usize>(
@@ -201,6 +298,16 @@ fn nnz_raster_from_z(n: &[u8; 24]) -> [u8; 24] {
 #[inline(never)]
 fn inverse_core(deq: &[i32; 16]) -> [i32; 16] {
     transform::inverse_core(deq)
+}
+
+#[inline(never)]
+fn luma16x16_dc(above: bool, beside: bool, top: &[u8; 16], left: &[u8; 16]) -> [u8; 1] {
+    [predict::luma16x16_dc(above, beside, top, left)]
+}
+
+#[inline(never)]
+fn chroma8x8_dc(above: bool, beside: bool, top: &[u8; 8], left: &[u8; 8]) -> [u8; 64] {
+    predict::chroma8x8_dc(above, beside, top, left)
 }
 
 #[inline(never)]
@@ -445,6 +552,7 @@ fn pictures() -> Vec<Row> {
 
 fn table(rows: &[Row]) -> String {
     let mut out = String::new();
+    let counted = rows.iter().all(|r| r.instructions.is_some());
     let groups = [
         ("pictures", "Whole pictures, nanoseconds for a macroblock"),
         ("prediction", "Prediction, nanoseconds for a block"),
@@ -452,12 +560,14 @@ fn table(rows: &[Row]) -> String {
         ("small", "Small routines, nanoseconds for a call"),
     ];
     for (group, title) in groups {
-        writeln!(out, "\n### {title}\n\n| | Rust | Rust with checks | port | port / Rust | quartiles |\n|---|---:|---:|---:|---:|---|")
-            .unwrap();
+        let (head, line) = if counted { (" instructions: Rust / with checks / port |", "---:|") } else { ("", "") };
+        writeln!(out, "\n### {title}\n\n| | Rust | Rust with checks | port | port / Rust | quartiles |{head}").unwrap();
+        writeln!(out, "|---|---:|---:|---:|---:|---|{line}").unwrap();
         for r in rows.iter().filter(|r| r.group == group) {
             let (rust, checked, port) = (r.rust, r.checked, r.port);
             let spread = format!("{:.2} to {:.2}", r.low, r.high);
-            writeln!(out, "| {} | {rust:.1} | {checked:.1} | {port:.1} | {:.2} | {spread} |", r.name, r.ratio).unwrap();
+            let counts = r.instructions.map_or(String::new(), |[a, b, c]| format!(" {a:.0} / {b:.0} / {c:.0} |"));
+            writeln!(out, "| {} | {rust:.1} | {checked:.1} | {port:.1} | {:.2} | {spread} |{counts}", r.name, r.ratio).unwrap();
         }
     }
     out
@@ -492,11 +602,10 @@ fn plot(rows: &[Row]) -> String {
     out + "</svg>\n"
 }
 
-fn main() {
-    let inputs = Inputs::new();
-    let mut rows = pictures();
+fn predictions(inputs: &Inputs) -> Vec<Row> {
+    let mut rows = Vec::new();
     rows.extend(predictor(
-        &inputs,
+        inputs,
         "intra4x4_pred",
         9,
         jiwarbend_intra4x4_pred,
@@ -504,7 +613,7 @@ fn main() {
         rules::intra4x4_pred,
     ));
     rows.extend(predictor(
-        &inputs,
+        inputs,
         "intra8x8_pred",
         9,
         jiwarbend_intra8x8_pred,
@@ -512,7 +621,7 @@ fn main() {
         rules::intra8x8_pred,
     ));
     rows.extend(predictor(
-        &inputs,
+        inputs,
         "luma16x16_pred",
         4,
         jiwarbend_luma16x16_pred,
@@ -520,16 +629,18 @@ fn main() {
         rules::luma16x16_pred,
     ));
     rows.extend(predictor(
-        &inputs,
+        inputs,
         "chroma8x8_pred",
         4,
         jiwarbend_chroma8x8_pred,
         |mode, top, left, corner| predict::chroma8x8_pred(mode, true, true, top, left, corner),
         rules::chroma8x8_pred,
     ));
+    rows.push(mean(inputs, "luma16x16_dc", jiwarbend_luma16x16_dc, luma16x16_dc));
+    rows.push(mean(inputs, "chroma8x8_dc", jiwarbend_chroma8x8_dc, chroma8x8_dc));
     let modes = [0, 1, 2, 3];
     rows.extend(from_plane::<256>(
-        &inputs,
+        inputs,
         "i16x16_luma_pred",
         &modes,
         jiwarbend_i16x16_luma_pred,
@@ -537,20 +648,41 @@ fn main() {
         rules::i16x16_luma_pred,
     ));
     rows.extend(from_plane::<64>(
-        &inputs,
+        inputs,
         "chroma8x8_plane_pred",
         &modes[2..],
         jiwarbend_chroma8x8_plane_pred,
         intra_pred::chroma8x8_pred,
         rules::chroma8x8_plane_pred,
     ));
+    rows
+}
+
+/// Writes the table and the plot, with the instructions where they can be counted.
+fn write(rows: &mut [Row], folder: &Path) {
+    std::fs::create_dir_all(folder).unwrap();
+    if let Some(counts) = instructions(folder) {
+        assert_eq!(counts.len(), 3 * rows.len());
+        for (row, c) in rows.iter_mut().zip(counts.chunks(3)) {
+            let units = counted(row.per) as f64 * row.per;
+            row.instructions = Some([c[0] / units, c[1] / units, c[2] / units]);
+        }
+    }
+    std::fs::write(folder.join("table.md"), table(rows)).unwrap();
+    std::fs::write(folder.join("benchmark.svg"), plot(rows)).unwrap();
+}
+
+fn main() {
+    let inputs = Inputs::new();
+    let mut rows = pictures();
+    rows.extend(predictions(&inputs));
     rows.extend(blocks(&inputs));
     rows.extend(small(&inputs));
+    if counting() {
+        return;
+    }
     if let Some(folder) = std::env::args().nth(1) {
-        let folder = std::path::Path::new(&folder);
-        std::fs::create_dir_all(folder).unwrap();
-        std::fs::write(folder.join("table.md"), table(&rows)).unwrap();
-        std::fs::write(folder.join("benchmark.svg"), plot(&rows)).unwrap();
+        write(&mut rows, Path::new(&folder));
     }
     let above = rows.iter().filter(|r| r.ratio > 1.0).count();
     println!("{} pairs timed, {above} of them above 1.0", rows.len());
