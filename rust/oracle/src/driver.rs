@@ -101,27 +101,44 @@ impl Picture<'_> {
         if !self.ready(at, n) {
             return 5;
         }
-        if !known(kind, modes, chroma_mode) {
-            return 6;
+        let answer = macroblock([&mut self.luma, &mut self.cb, &mut self.cr], (x, y), n, kind, modes, chroma_mode, numbers);
+        if answer != 0 {
+            return answer;
         }
-        if !permitted(kind, modes, chroma_mode, n) {
-            return 7;
-        }
-        if !numbers.iter().all(|v| (rules::LOW..=rules::HIGH).contains(v)) {
-            return 8;
-        }
-        match kind {
-            0 => blocks_4x4(&mut self.luma, x, y, n, modes, numbers),
-            1 => blocks_8x8(&mut self.luma, x, y, n, modes, numbers),
-            _ => block_16x16(&mut self.luma, x, y, n, modes[0], numbers),
-        }
-        chroma(&mut self.cb, x, y, n, chroma_mode, &numbers[256..320]);
-        chroma(&mut self.cr, x, y, n, chroma_mode, &numbers[320..384]);
         self.done[at] = 1;
         self.progress.last = at as u32;
         self.progress.count = (self.progress.count + 1).min(self.w * self.h);
         0
     }
+}
+
+/// Rebuilds the macroblock at `(x, y)` of luma, Cb and Cr, which lies in them with its available neighbours `n`, or answers 6, 7 or 8.
+pub fn macroblock(
+    [luma, cb, cr]: [&mut Plane; 3],
+    (x, y): (usize, usize),
+    n: Near,
+    kind: u8,
+    modes: &[u8],
+    chroma_mode: u8,
+    numbers: &[i32],
+) -> u32 {
+    if !known(kind, modes, chroma_mode) {
+        return 6;
+    }
+    if !permitted(kind, modes, chroma_mode, n) {
+        return 7;
+    }
+    if !numbers.iter().all(|v| (rules::LOW..=rules::HIGH).contains(v)) {
+        return 8;
+    }
+    match kind {
+        0 => blocks_4x4(luma, x, y, n, modes, numbers),
+        1 => blocks_8x8(luma, x, y, n, modes, numbers),
+        _ => block_16x16(luma, x, y, n, modes[0], numbers),
+    }
+    chroma(cb, x, y, n, chroma_mode, &numbers[256..320]);
+    chroma(cr, x, y, n, chroma_mode, &numbers[320..384]);
+    0
 }
 
 fn known(kind: u8, modes: &[u8], chroma_mode: u8) -> bool {
