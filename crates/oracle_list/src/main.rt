@@ -8,21 +8,15 @@ mod small;
 mod sums;
 
 use libc::STDIN_FILENO;
-use libc::STDOUT_FILENO;
 
 // A routine's part: its number, the bytes of a case, and its name.
 fn part(routine: u8, size: usize, name: &[u8])
     requires { ⌜ size ≤ 4096 ⌝ }
 {
     let mut room = io::buffer();
-    let n = case::how_many();
+    let n = lists::how_many();
     let wrong = replay(routine, n, &mut room[..size]);
-    io::write_all(STDOUT_FILENO, name);
-    io::write_all(STDOUT_FILENO, b": ");
-    io::print_decimal(STDOUT_FILENO, n as u64);
-    io::write_all(STDOUT_FILENO, b" cases, ");
-    io::print_decimal(STDOUT_FILENO, wrong as u64);
-    io::write_all(STDOUT_FILENO, b" differ\n");
+    lists::tell(name, n, wrong);
 }
 
 // How many of the next n cases, each as long as the room for it, differ.
@@ -30,7 +24,7 @@ fn replay(routine: u8, n: u32, room: &mut [u8]) -> u32 {
     let mut wrong = 0;
     for k in 0..n {
         if !next_agrees(routine, room) {
-            wrong = case::more(wrong);
+            wrong = lists::more(wrong);
         }
     }
     wrong

@@ -1,9 +1,9 @@
 // The predictors. A case of the first four: mode, marks, corner, answer, the samples above and to the left, and the block.
-use crate::case::marked;
 use crate::case::place;
 use crate::case::same;
+use lists::marked;
 
-pub fn intra4x4(c: &[u8]) -> bool {
+pub(crate) fn intra4x4(c: &[u8]) -> bool {
     if c.len() != 32 {
         return false;
     }
@@ -21,7 +21,7 @@ pub fn intra4x4(c: &[u8]) -> bool {
     same(r, &out, c[3], &c[16..32])
 }
 
-pub fn intra8x8(c: &[u8]) -> bool {
+pub(crate) fn intra8x8(c: &[u8]) -> bool {
     if c.len() != 92 {
         return false;
     }
@@ -39,7 +39,7 @@ pub fn intra8x8(c: &[u8]) -> bool {
     same(r, &out, c[3], &c[28..92])
 }
 
-pub fn luma16x16(c: &[u8]) -> bool {
+pub(crate) fn luma16x16(c: &[u8]) -> bool {
     if c.len() != 292 {
         return false;
     }
@@ -57,7 +57,7 @@ pub fn luma16x16(c: &[u8]) -> bool {
     same(r, &out, c[3], &c[36..292])
 }
 
-pub fn chroma8x8(c: &[u8]) -> bool {
+pub(crate) fn chroma8x8(c: &[u8]) -> bool {
     if c.len() != 84 {
         return false;
     }
@@ -76,7 +76,7 @@ pub fn chroma8x8(c: &[u8]) -> bool {
 }
 
 // mode, base, stride, answer, a plane of 300 bytes, and the block
-pub fn luma_from_plane(c: &[u8]) -> bool {
+pub(crate) fn luma_from_plane(c: &[u8]) -> bool {
     if c.len() != 560 {
         return false;
     }
@@ -92,7 +92,7 @@ pub fn luma_from_plane(c: &[u8]) -> bool {
 }
 
 // mode, base, stride, answer, a plane of 100 bytes, and the block
-pub fn chroma_from_plane(c: &[u8]) -> bool {
+pub(crate) fn chroma_from_plane(c: &[u8]) -> bool {
     if c.len() != 168 {
         return false;
     }

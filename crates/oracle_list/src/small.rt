@@ -1,11 +1,11 @@
 // The routines that never refuse a value.
-use crate::case::marked;
-use crate::case::numbers;
 use crate::case::same;
-use crate::case::wide;
+use lists::marked;
+use lists::numbers;
+use lists::wide;
 
 // the number, and its byte
-pub fn clip_u8(c: &[u8]) -> bool {
+pub(crate) fn clip_u8(c: &[u8]) -> bool {
     if c.len() != 4 {
         return false;
     }
@@ -15,7 +15,7 @@ pub fn clip_u8(c: &[u8]) -> bool {
 }
 
 // the QP, and its chroma QP
-pub fn chroma_qp(c: &[u8]) -> bool {
+pub(crate) fn chroma_qp(c: &[u8]) -> bool {
     if c.len() != 2 {
         return false;
     }
@@ -23,7 +23,7 @@ pub fn chroma_qp(c: &[u8]) -> bool {
 }
 
 // the marks of left and above, the two numbers, and the context
-pub fn nc_from_neighbors(c: &[u8]) -> bool {
+pub(crate) fn nc_from_neighbors(c: &[u8]) -> bool {
     if c.len() != 4 {
         return false;
     }
@@ -37,7 +37,7 @@ pub fn nc_from_neighbors(c: &[u8]) -> bool {
 }
 
 // 24 numbers in scan order, and in raster order
-pub fn nnz_raster_from_z(c: &[u8]) -> bool {
+pub(crate) fn nnz_raster_from_z(c: &[u8]) -> bool {
     if c.len() != 48 {
         return false;
     }

@@ -1,12 +1,12 @@
 // The inverse and the clipped sums.
 use crate::case::copy;
-use crate::case::numbers;
 use crate::case::place;
 use crate::case::same;
 use crate::case::same_numbers;
+use lists::numbers;
 
 // the answer, the coefficients, and the residual
-pub fn inverse(c: &[u8]) -> bool {
+pub(crate) fn inverse(c: &[u8]) -> bool {
     if c.len() != 97 {
         return false;
     }
@@ -20,7 +20,7 @@ pub fn inverse(c: &[u8]) -> bool {
 }
 
 // the answer, coefficients or residual, the prediction, and the block
-pub fn reconstruct(c: &[u8]) -> bool {
+pub(crate) fn reconstruct(c: &[u8]) -> bool {
     if c.len() != 113 {
         return false;
     }
@@ -34,7 +34,7 @@ pub fn reconstruct(c: &[u8]) -> bool {
 }
 
 // the answer, coefficients or residual, the prediction, and the block
-pub fn add_4x4(c: &[u8]) -> bool {
+pub(crate) fn add_4x4(c: &[u8]) -> bool {
     if c.len() != 113 {
         return false;
     }
@@ -48,7 +48,7 @@ pub fn add_4x4(c: &[u8]) -> bool {
 }
 
 // the answer, coefficients or residual, the prediction, and the block
-pub fn add_8x8(c: &[u8]) -> bool {
+pub(crate) fn add_8x8(c: &[u8]) -> bool {
     if c.len() != 449 {
         return false;
     }
@@ -62,7 +62,7 @@ pub fn add_8x8(c: &[u8]) -> bool {
 }
 
 // the answer, both places and strides, coefficients or residual, 40 bytes to read, and 60 before and after the call
-pub fn reconstruct_into(c: &[u8]) -> bool {
+pub(crate) fn reconstruct_into(c: &[u8]) -> bool {
     if c.len() != 213 {
         return false;
     }
@@ -83,7 +83,7 @@ pub fn reconstruct_into(c: &[u8]) -> bool {
 }
 
 // the answer, both places and strides, coefficients or residual, 40 bytes to read, and 60 before and after the call
-pub fn flat_into(c: &[u8]) -> bool {
+pub(crate) fn flat_into(c: &[u8]) -> bool {
     if c.len() != 168 {
         return false;
     }
@@ -104,7 +104,7 @@ pub fn flat_into(c: &[u8]) -> bool {
 }
 
 // the answer, both places and strides, coefficients or residual, 40 bytes to read, and 60 before and after the call
-pub fn add_into(c: &[u8]) -> bool {
+pub(crate) fn add_into(c: &[u8]) -> bool {
     if c.len() != 213 {
         return false;
     }

@@ -1,10 +1,10 @@
--- `oracle_list::case::number` meets its contract: three bytes are below 16777216. Assumes nothing.
+-- `lists::number` meets its contract: three bytes are below 16777216. Assumes nothing.
 use Prim.Native.Nat.{_+_, _*_}
 use native.Mathlib.Omega.{arith}
 use borrow.Author.Needs.{needs}
 use Rattle.laws.proofs.Ints.{within-fits, within-add, within-neg, within-lit, nat-within}
-use Rattle.oracle_list.proofs.case.number.Statement.{statement}
-use Rattle.oracle_list.proofs.case.number.Tie as tie
+use Rattle.lists.proofs.number.Statement.{statement}
+use Rattle.lists.proofs.number.Tie as tie
 
 sub-result : tie.Need-sub-result
 sub-result c =

@@ -1,0 +1,72 @@
+// What the programs that replay a list of answers share. A list comes on standard input in parts; a part is the number of its cases and the cases.
+ghost use mathlib.Core.Path.{_≡_};
+ghost use Prim.Native.Nat.{_<_};
+use libc::STDIN_FILENO;
+use libc::STDOUT_FILENO;
+
+// The number of a part's cases, with which it begins: two bytes, the lower first.
+pub fn how_many() -> u32 {
+    let mut head = [0u8; 2];
+    io::read_full(STDIN_FILENO, &mut head);
+    wide(head[0]) + 256 * wide(head[1])
+}
+
+// One more case that differs, as far as a part can have them.
+pub fn more(n: u32) -> u32 {
+    if n < 65535 { n + 1 } else { n }
+}
+
+// The line of a part: its name, how many cases it had, and in how many of them the answer is another one.
+pub fn tell(name: &[u8], cases: u32, wrong: u32) {
+    io::write_all(STDOUT_FILENO, name);
+    io::write_all(STDOUT_FILENO, b": ");
+    io::print_decimal(STDOUT_FILENO, cases as u64);
+    io::write_all(STDOUT_FILENO, b" cases, ");
+    io::print_decimal(STDOUT_FILENO, wrong as u64);
+    io::write_all(STDOUT_FILENO, b" differ\n");
+}
+
+pub fn wide(x: u8) -> u32
+    ensures { λ r. ⌜ (r ≡ x) × (r < 256) ⌝ }
+{
+    x as u32
+}
+
+pub fn marked(marks: u8, bit: u8) -> bool {
+    marks & bit != 0
+}
+
+// A number of a list: three bytes, the lowest first, and 8388608 more than the number.
+fn number(a: u8, b: u8, c: u8) -> i32 {
+    (wide(a) + 256 * wide(b) + 65536 * wide(c)) as i32 - 8388608
+}
+
+// Number k of a run of them, or 0 where it has fewer.
+fn number_at(c: &[u8], k: usize) -> i32 {
+    if k >= c.len() / 3 {
+        return 0;
+    }
+    number(c[3 * k], c[3 * k + 1], c[3 * k + 2])
+}
+
+// As many numbers as `out` has places.
+pub fn numbers(c: &[u8], out: &mut [i32]) {
+    let n = out.len();
+    for k in 0..n {
+        out[k] = number_at(c, k);
+    }
+}
+
+// Whether two runs of bytes are the same.
+pub fn same(p: &[u8], q: &[u8]) -> bool {
+    if p.len() != q.len() {
+        return false;
+    }
+    let n = p.len();
+    for k in 0..n {
+        if p[k] != q[k] {
+            return false;
+        }
+    }
+    true
+}
