@@ -1,13 +1,14 @@
-# make demo        rebuilds a sample picture out of order and writes target/demo/jiwarbend.png
-# make test        the gate: every proof, every must-fail edit and every program, from nothing
-# make lib         target/lib/libjiwarbend.a, the proved library for the machine at hand (include/jiwarbend.h)
-# make rust-test   the Rust wrapper's tests
-# make diff        the port against the Rust it was ported from, call by call
-# make diff-x86-64 the same against the x86-64 archive under an emulator, on a machine of another kind
-# make oracle-list the fixed list of the Rust's answers, made anew
-# make bench       the port and the Rust side by side; writes target/bench/, with instructions where valgrind is installed
+# make demo            rebuilds a sample picture out of order and writes target/demo/jiwarbend.png
+# make test            the gate: every proof, every must-fail edit and every program, from nothing
+# make lib             target/lib/libjiwarbend.a, the proved library for the machine at hand (include/jiwarbend.h)
+# make rust-test       the Rust wrapper's tests
+# make diff            the port against the Rust it was ported from, call by call
+# make diff-x86-64     the same against the x86-64 archive under an emulator, on a machine of another kind
+# make oracle-list     the fixed list of the Rust's answers, made anew
+# make macroblock-list the fixed list of macroblocks that the Rust's routines rebuilt, made anew
+# make bench           the port and the Rust side by side; writes target/bench/, with instructions where valgrind is installed
 #
-# ORACLE is the folder of the Rust that was ported (diff, oracle-list, bench).
+# ORACLE is the folder of the Rust that was ported (diff, oracle-list, macroblock-list, bench).
 ORACLE ?= ../shared/docs/src
 CARGO ?= cargo
 
@@ -17,7 +18,7 @@ export JIWARBEND_ARCHIVE = $(abspath $(ARCHIVE))
 export JIWARBEND_ORACLE = $(abspath $(ORACLE))
 RUN = $(CARGO) run --quiet --release --manifest-path rust/Cargo.toml
 
-.PHONY: test lib rust-test diff diff-x86-64 oracle-list bench demo
+.PHONY: test lib rust-test diff diff-x86-64 oracle-list macroblock-list bench demo
 test:
 	.ci/run
 
@@ -37,6 +38,9 @@ diff-x86-64:
 
 oracle-list: $(ARCHIVE)
 	$(RUN) -p harness --bin oracle_list > crates/oracle_list/stdin
+
+macroblock-list: $(ARCHIVE)
+	$(RUN) -p harness --bin macroblock_list > crates/macroblocks/stdin
 
 bench: $(ARCHIVE)
 	$(RUN) -p harness --bin bench target/bench

@@ -1,4 +1,6 @@
-//! What the differential runs, the fixed list and the benchmark share: numbers at random, records, and pictures over both sides.
+//! What the differential runs, the fixed lists and the benchmark share: numbers at random, records, and pictures over both sides.
+pub mod list;
+
 use oracle::driver::{self, Near};
 use oracle::rules;
 

@@ -1,28 +1,10 @@
 //! Writes the fixed list of the Rust's answers to standard output: for each routine, in the order of crates/oracle_list/src/main.rt, the
 //! number of its cases in two bytes, and the cases as the program there reads them. A refused case has the rules' answer and leaves zeros,
 //! or the buffer as it was.
+use harness::list::{put, List};
 use harness::Random;
 use oracle::predict;
 use oracle::rules::{self, Marks, Square};
-use std::io::Write;
-
-struct List(Vec<u8>);
-
-impl List {
-    fn part(&mut self, cases: usize, mut case: impl FnMut(usize, &mut Vec<u8>)) {
-        self.0.extend((cases as u16).to_le_bytes());
-        for k in 0..cases {
-            case(k, &mut self.0);
-        }
-    }
-}
-
-/// A number in three bytes.
-fn put(out: &mut Vec<u8>, numbers: &[i32]) {
-    for n in numbers {
-        out.extend(&(n + 8_388_608).to_le_bytes()[..3]);
-    }
-}
 
 /// Numbers, of which one in some lists is just out of range.
 fn numbers<const N: usize>(random: &mut Random) -> [i32; N] {
@@ -122,7 +104,7 @@ fn into_plane<const K: usize>(
 fn main() {
     let mut random = Random::new(2026);
     let random = &mut random;
-    let mut list = List(Vec::new());
+    let mut list = List::default();
     list.part(300, |k, out| {
         let v = if k < 200 { 4 * k as i32 - 300 } else { random.below(2_000_000) as i32 - 1_000_000 };
         put(out, &[v]);
@@ -159,5 +141,5 @@ fn main() {
     into_plane::<16>(&mut list, random, 200, rules::reconstruct_4x4_into);
     into_plane::<1>(&mut list, random, 200, |first, pred, from, rec, to| rules::reconstruct_4x4_dc_into(first[0], pred, from, rec, to));
     into_plane::<16>(&mut list, random, 200, rules::add_residual_4x4_into);
-    std::io::stdout().write_all(&list.0).unwrap();
+    list.print();
 }
