@@ -104,7 +104,7 @@ pub extern "C" fn jiwarbend_reconstruct_4x4_into(
     r_stride: usize,
 ) -> u32
     ensures { λ r. ⌜ r ≡ cond (now (deq .entry) has 16) (intoAnswer (allInRange (now (deq .entry))) (length (now (pred .entry))) «p_off» «p_stride» (length (now (rec .entry))) «r_off» «r_stride») 2 ⌝ }
-    ensures { λ r. ⌜ now (rec .exit) ≡ written r (now (rec .entry)) (putSquare 4 «r_off» «r_stride» (sumIn (inverse4x4 (now (deq .entry))) (now (pred .entry)) «p_off» «p_stride») (now (rec .entry))) ⌝ }
+    ensures { λ r. ⌜ now (rec .exit) ≡ written r (now (rec .entry)) (putSquare 4 «r_off» «r_stride» (sumIn 4 (inverse4x4 (now (deq .entry))) (now (pred .entry)) «p_off» «p_stride») (now (rec .entry))) ⌝ }
 {
     if deq.len() != 16 {
         return 2;
@@ -124,7 +124,7 @@ pub extern "C" fn jiwarbend_reconstruct_4x4_dc_into(
     r_stride: usize,
 ) -> u32
     ensures { λ r. ⌜ r ≡ intoAnswer (inRange rval) (length (now (pred .entry))) «p_off» «p_stride» (length (now (rec .entry))) «r_off» «r_stride» ⌝ }
-    ensures { λ r. ⌜ now (rec .exit) ≡ written r (now (rec .entry)) (putSquare 4 «r_off» «r_stride» (sumIn (replicate 16 rval) (now (pred .entry)) «p_off» «p_stride») (now (rec .entry))) ⌝ }
+    ensures { λ r. ⌜ now (rec .exit) ≡ written r (now (rec .entry)) (putSquare 4 «r_off» «r_stride» (sumIn 4 (replicate 16 rval) (now (pred .entry)) «p_off» «p_stride») (now (rec .entry))) ⌝ }
 {
     samples::reconstruct::reconstruct_4x4_dc_into(rval, pred, p_off, p_stride, rec, r_off, r_stride)
 }
@@ -140,7 +140,7 @@ pub extern "C" fn jiwarbend_add_residual_4x4_into(
     r_stride: usize,
 ) -> u32
     ensures { λ r. ⌜ r ≡ cond (now (res .entry) has 16) (intoAnswer (allInRange (now (res .entry))) (length (now (pred .entry))) «p_off» «p_stride» (length (now (rec .entry))) «r_off» «r_stride») 2 ⌝ }
-    ensures { λ r. ⌜ now (rec .exit) ≡ written r (now (rec .entry)) (putSquare 4 «r_off» «r_stride» (sumIn (now (res .entry)) (now (pred .entry)) «p_off» «p_stride») (now (rec .entry))) ⌝ }
+    ensures { λ r. ⌜ now (rec .exit) ≡ written r (now (rec .entry)) (putSquare 4 «r_off» «r_stride» (sumIn 4 (now (res .entry)) (now (pred .entry)) «p_off» «p_stride») (now (rec .entry))) ⌝ }
 {
     if res.len() != 16 {
         return 2;

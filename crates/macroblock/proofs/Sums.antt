@@ -30,18 +30,18 @@ taken-good numbers n g e =
 
 module _ (s Y Z po ps off r : ℕ) (pred p p′ : List ℕ) (res deq : List ℤ) (F : Fits 4 s Y Z (length p)) (room : po + 3 * ps + 4 ≤ length pred) (few : ps ≤ 16)
     (at-off : off ≡ Y * 4 * s + Z * 4) (good : allInRange deq ≡ true) (answered : r ≡ intoAnswer (allInRange deq) (length pred) po ps (length p) off s)
-    (left : p′ ≡ written r p (putSquare 4 off s (sumIn res pred po ps) p)) where
+    (left : p′ ≡ written r p (putSquare 4 off s (sumIn 4 res pred po ps) p)) where
   taken : r ≡ 0
   taken =
       answered
       ∙ accepted (length pred) po ps (length p) off s
       (room-of (length pred) po ps (length p) off s (omega arith) (omega (arith, F .wide)) (F .short) room (omega (arith, F .within, add-mul (Y * 4) 3 s))) good
 
-  pub put-into : (u : ℕ → ℕ → ℕ) → ((x y : ℕ) → x < 4 → y < 4 → sumIn res pred po ps x y ≡ u x y) → p′ ≡ putBlock 4 s Y Z u p
+  pub put-into : (u : ℕ → ℕ → ℕ) → ((x y : ℕ) → x < 4 → y < 4 → sumIn 4 res pred po ps x y ≡ u x y) → p′ ≡ putBlock 4 s Y Z u p
   put-into u e =
-      left ∙ put p (putSquare 4 off s (sumIn res pred po ps) p) taken
-      ∙ put-is-put 4 s Y Z off (omega arith) (F .wide) at-off (sumIn res pred po ps) p
-      ∙ put-same 4 s Y Z (sumIn res pred po ps) u p (omega arith) e
+      left ∙ put p (putSquare 4 off s (sumIn 4 res pred po ps) p) taken
+      ∙ put-is-put 4 s Y Z off (omega arith) (F .wide) at-off (sumIn 4 res pred po ps) p
+      ∙ put-same 4 s Y Z (sumIn 4 res pred po ps) u p (omega arith) e
 
 -- coefficients in rows of four are coefficients one after the other
 pub coefficients-are : (numbers deq : List ℤ) (b : ℕ) → deq ≡ table 16 (λ i. at numbers (16 * b + i / 4 * 4 + i % 4)) → deq ≡ table 16 (λ i. at numbers (16 * b + i))

@@ -49,20 +49,20 @@ module _ (pred : List ℕ) (predOff predStride : ℕ) where
         ≡ into (allInRange (lone v)) (inverse4x4 (lone v)) pred predOff predStride rec recOff recStride
     flat-into v e = ap₂ (λ numbers res. into numbers res pred predOff predStride rec recOff recStride) (rounded-passes v e ∙ sym (lone-passes v e)) (sym (flat v))
 
-    arrays-into : (res : List ℤ) → intoRoom (length pred) predOff predStride (length rec) recOff recStride ≡ true
-        → blockOf 4 (square (putSquare 4 recOff recStride (sumIn res pred predOff predStride) rec) recOff recStride)
+    arrays-into : (res : List ℤ) → intoRoom 4 (length pred) predOff predStride (length rec) recOff recStride ≡ true
+        → blockOf 4 (square (putSquare 4 recOff recStride (sumIn 4 res pred predOff predStride) rec) recOff recStride)
         ≡ sums 16 res (blockOf 4 (λ x y. pos (square pred predOff predStride x y)))
     unfolding sums
     arrays-into res e = table-same 16 _ _ at-place
       where
         at-place : (k : ℕ) → k < 16
-            → square (putSquare 4 recOff recStride (sumIn res pred predOff predStride) rec) recOff recStride (k % 4) (k / 4)
+            → square (putSquare 4 recOff recStride (sumIn 4 res pred predOff predStride) rec) recOff recStride (k % 4) (k / 4)
             ≡ Clip1 (at (blockOf 4 (λ x y. pos (square pred predOff predStride x y))) k +ℤ at res k)
         at-place k l =
-            let r = room (length pred) predOff predStride (length rec) recOff recStride (k / 4) e (omega arith) in
+            let r = room 4 (length pred) predOff predStride (length rec) recOff recStride (k / 4) e (omega arith) in
             let x : k % 4 < 4 = omega arith in
             let n : 4 * (k / 4) + k % 4 ≡ k = omega arith in
-            square-at 4 recOff recStride (k % 4) (k / 4) (sumIn res pred predOff predStride) rec (r .wide) x (omega arith) (omega (arith, r .rec-row))
+            square-at 4 recOff recStride (k % 4) (k / 4) (sumIn 4 res pred predOff predStride) rec (r .wide) x (omega arith) (omega (arith, r .rec-row))
             ∙ ap₂ (λ p r. Clip1 (p +ℤ at res r)) (sym (getD-table (pos 0) 16 (λ k. pos (square pred predOff predStride (k % 4) (k / 4))) k l)) n
 
 pub agreement : Agreement

@@ -1,20 +1,25 @@
 -- The 4x4 inverse transform: how large its numbers grow, and its residuals by column. Assumes nothing.
-use mathlib.Core.Path.{_≡_, sym, ap, _∙_, subst}
+use mathlib.Core.Path.{_≡_, sym, ap, ap₂, _∙_, subst}
 use mathlib.Core.Bool.{true}
-use mathlib.Core.List.{List, [], _∷_, map}
-use Prim.Native.Nat.{ℕ, zero, suc, _+_, _*_, _/_, _%_}
+use mathlib.Core.List.{List, [], _∷_, _++_, map}
+use Prim.Native.Nat.{ℕ, zero, suc, _+_, _-_, _*_, _/_, _%_, _<_, _≤_}
 use native.Mathlib.Omega.{arith}
+use borrow.Rule.Slice.PartMut.{putMid, midOf}
 use lib.IntN.{ℤ, pos, negℤ, _+ℤ_, _-ℤ_}
 use lib.Dec.{lit<}
-use lib.ListN.{getD}
+use lib.ListN.{length, getD, drop}
+use lib.Seq.{getD-take, getD-drop, drop-at}
 use lib.Signed.{shrZ}
 use mir.Syntax.{w32}
 use mir.Val.{toZ, ofZ}
 use Rattle.laws.specs.Range.{Within, AllWithin, at}
-use Rattle.laws.specs.Table.{table, blockOf}
-use Rattle.laws.proofs.Ints.{ints, within-more, within-neg, within-shr, within-table, abs-add, parts-abs, parts-shr, four-is}
+use Rattle.laws.specs.Table.{table, blockOf, onto}
+use Rattle.laws.proofs.Ints.{ints, within-more, within-neg, within-shr, within-table, abs-add, parts-abs, parts-shr, four-is, back}
+use Rattle.laws.proofs.Ontos.{onto-long, onto-row}
+use Rattle.laws.proofs.Tables.{length-table, getD-table, table-same}
 use Rattle.samples.specs.Inverse.{oneDimensional, rowOf, columnOf, rounded, inverse4x4}
 use Rattle.samples.specs.Numbers.{allInRange}
+use Rattle.samples.specs.inner.Sums.{placeIn}
 use Rattle.samples.proofs.InRange.{all-within}
 
 -- a list that is a bounded one, and is bounded
@@ -39,11 +44,9 @@ one-within k a b c d ha hb hc hd = record { each = places }
     places (suc (suc (suc zero))) = apart (2 * k) (a +ℤ c) (b +ℤ shrZ d 2) (twice k a c ha hc) (twice k b (shrZ d 2) hb (within-shr k 2 d hd))
     places (suc (suc (suc (suc n)))) = record { within = omega arith }
 
-pub row-within : (d : List ℤ) (i : ℕ) → allInRange d ≡ true → AllWithin 131072 (rowOf d i)
+pub row-within : (d : List ℤ) (i : ℕ) → i < 4 → ((k : ℕ) → k < 16 → Within 32768 (at d k)) → AllWithin 131072 (rowOf d i)
 unfolding rowOf
-row-within d i e =
-    let w = all-within d e in
-    one-within 32768 _ _ _ _ (w .each (4 * i)) (w .each (4 * i + 1)) (w .each (4 * i + 2)) (w .each (4 * i + 3))
+row-within d i h w = one-within 32768 _ _ _ _ (w (4 * i) (omega arith)) (w (4 * i + 1) (omega arith)) (w (4 * i + 2) (omega arith)) (w (4 * i + 3) (omega arith))
 
 -- ( z + 32 ) >> 6, as the machine computes it
 abbrev machine-rounded : ℤ → ℤ
@@ -94,5 +97,70 @@ pub inverse-within : (d : List ℤ) → allInRange d ≡ true → AllWithin 3276
 unfolding inverse4x4 columnOf
 inverse-within d e =
     within-table 32768 16 _
-    (λ k. let w : (i : ℕ) → Within 131072 (at (rowOf d i) (k % 4)) = λ i. row-within d i e .each (k % 4) in
-    rounded-within _ (one-within 131072 _ _ _ _ (w 0) (w 1) (w 2) (w 3) .each (k / 4)))
+    (λ k. let w : (i : ℕ) → i < 4 → Within 131072 (at (rowOf d i) (k % 4)) = λ i h. row-within d i h (λ k _. all-within d e .each k) .each (k % 4) in
+    rounded-within _ (one-within 131072 _ _ _ _ (w 0 (lit< tt)) (w 1 (lit< tt)) (w 2 (lit< tt)) (w 3 (lit< tt)) .each (k / 4)))
+
+-- residuals come from the first sixteen numbers alone
+pub inverse-same : (d d′ : List ℤ) → ((k : ℕ) → k < 16 → at d k ≡ at d′ k) → inverse4x4 d ≡ inverse4x4 d′
+unfolding inverse4x4 columnOf rowOf
+inverse-same d d′ e =
+    rw (
+      e 0 (lit< tt),
+      e 1 (lit< tt),
+      e 2 (lit< tt),
+      e 3 (lit< tt),
+      e 4 (lit< tt),
+      e 5 (lit< tt),
+      e 6 (lit< tt),
+      e 7 (lit< tt),
+      e 8 (lit< tt),
+      e 9 (lit< tt),
+      e 10 (lit< tt),
+      e 11 (lit< tt),
+      e 12 (lit< tt),
+      e 13 (lit< tt),
+      e 14 (lit< tt),
+      e 15 (lit< tt),
+    )
+
+-- row i of a block whose columns are known, as the machine reads it from them
+pub place-is : (h0 h1 h2 h3 h : List ℤ) (i j k : ℕ) → j < 4 → k ≡ 4 * i + j → getD (h0 ∷ h1 ∷ h2 ∷ h3 ∷ []) j [] ≡ h → AllWithin 32768 h
+    → toZ w32 (ofZ w32 (at h i)) ≡ placeIn h0 h1 h2 h3 k
+place-is h0 h1 h2 h3 h i j k b n e w =
+    let m : k % 4 ≡ j = omega arith in
+    let d : k / 4 ≡ i = omega arith in
+    back 32768 (w .each i) tt ∙ sym (ap₂ (λ (x y : ℕ). at (getD (h0 ∷ h1 ∷ h2 ∷ h3 ∷ []) x []) y) m d ∙ ap (λ l. at l i) e)
+
+-- number i of the residuals of each sixteen numbers of a list
+abbrev pub blockAt : List ℤ → ℕ → ℤ
+blockAt l i = at (inverse4x4 (table 16 (λ k. at l (i / 16 * 16 + k)))) (i % 16)
+
+itself : (d : List ℤ) → table 16 (at (inverse4x4 d)) ≡ inverse4x4 d
+unfolding inverse4x4
+itself d = table-same 16 _ _ (getD-table (pos 0) 16 (λ k. rounded (at (columnOf d (k % 4)) (k / 4))))
+
+-- a list whose first b blocks are put: block b is still as it was, and it is put through the part of the list from its first number on
+module _ (b : ℕ) (l l′ : List ℤ) (e : l′ ≡ onto (16 * b) (blockAt l) l) (room : 16 * b + 16 ≤ length l) where
+  abbrev rest : List ℤ
+  rest = midOf (16 * b) (length l′ - 16 * b) l′
+
+  pub kept : length l′ ≡ length l
+  kept = onto-long (16 * b) (blockAt l) l l′ (omega arith) e
+
+  pub block-at : (k : ℕ) → k < 16 → at rest k ≡ at l (16 * b + k)
+  block-at k h =
+      getD-take (length l′ - 16 * b) (drop (16 * b) l′) k (pos 0) (omega (arith, kept))
+      ∙ ap (λ t. at t k) (ap (drop (16 * b)) e ∙ drop-at (table (16 * b) (blockAt l)) (drop (16 * b) l) (16 * b) (length-table (pos 0) (16 * b) (blockAt l)))
+      ∙ getD-drop (16 * b) l k (pos 0)
+
+  pub block-more : (ys : List ℤ) → ys ≡ inverse4x4 rest ++ drop 16 rest → putMid (16 * b) (length l′ - 16 * b) l′ ys ≡ onto (16 * (b + 1)) (blockAt l) l
+  block-more ys f =
+      let n : 16 * (b + 1) ≡ 16 * b + 16 = omega arith in
+      rw n (onto-row (16 * b) 16 (blockAt l) (at (inverse4x4 rest)) l l′ ys (omega arith) e (f ∙ ap (λ t. t ++ drop 16 rest) (sym (itself rest))) same)
+    where
+      same : (i : ℕ) → i < 16 → at (inverse4x4 rest) i ≡ blockAt l (16 * b + i)
+      same i h =
+          let m : (16 * b + i) / 16 * 16 ≡ 16 * b = omega arith in
+          let r : (16 * b + i) % 16 ≡ i = omega arith in
+          ap (λ t. at t i) (inverse-same rest (table 16 (λ k. at l (16 * b + k))) (λ k h. block-at k h ∙ sym (getD-table (pos 0) 16 (λ k. at l (16 * b + k)) k h)))
+          ∙ sym (ap₂ (λ (x y : ℕ). at (inverse4x4 (table 16 (λ k. at l (x + k)))) y) m r)

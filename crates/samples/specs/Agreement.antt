@@ -19,7 +19,7 @@ lone v = v ∷ replicate 15 (pos 0)
 abbrev pub into : Bool → List ℤ → List ℕ → ℕ → ℕ → List ℕ → ℕ → ℕ → ℕ × List ℕ
 into numbers res pred predOff predStride rec recOff recStride =
     let r = intoAnswer numbers (length pred) predOff predStride (length rec) recOff recStride in
-    (r, written r rec (putSquare 4 recOff recStride (sumIn res pred predOff predStride) rec))
+    (r, written r rec (putSquare 4 recOff recStride (sumIn 4 res pred predOff predStride) rec))
 
 -- the sample in column x and row y of the square of a plane whose first sample is at `off`
 abbrev pub square : List ℕ → ℕ → ℕ → ℕ → ℕ → ℕ
@@ -36,6 +36,6 @@ pub record Agreement : Type 0 where
   pub bytes-pass : (pred : List ℕ) (off stride : ℕ) → ((i : ℕ) → getD pred i 0 < 256) → allInRange (blockOf 4 (λ x y. pos (square pred off stride x y))) ≡ true
   -- and the sixteen bytes that a call puts into a plane are the array form's sums of the prediction that it reads
   pub arrays-into : (res : List ℤ) (pred : List ℕ) (predOff predStride : ℕ) (rec : List ℕ) (recOff recStride : ℕ)
-      → intoRoom (length pred) predOff predStride (length rec) recOff recStride ≡ true
-      → blockOf 4 (square (putSquare 4 recOff recStride (sumIn res pred predOff predStride) rec) recOff recStride)
+      → intoRoom 4 (length pred) predOff predStride (length rec) recOff recStride ≡ true
+      → blockOf 4 (square (putSquare 4 recOff recStride (sumIn 4 res pred predOff predStride) rec) recOff recStride)
       ≡ sums 16 res (blockOf 4 (λ x y. pos (square pred predOff predStride x y)))

@@ -1,10 +1,11 @@
 -- The transformation of residual 4x4 blocks, clause 8.5.12.2: rows, then columns, then rounding. `shrZ z (2 ^ n)` is z >> n, which rounds down.
 use mathlib.Core.List.{List, [], _∷_}
-use Prim.Native.Nat.{ℕ, _+_, _*_}
+use Prim.Native.Nat.{ℕ, _+_, _*_, _/_, _%_}
 use lib.IntN.{ℤ, pos, _+ℤ_, _-ℤ_}
+use lib.ListN.{length}
 use lib.Signed.{shrZ}
 use Rattle.laws.specs.Range.{at}
-use Rattle.laws.specs.Table.{blockOf}
+use Rattle.laws.specs.Table.{table, blockOf}
 
 -- the one-dimensional transformation of four numbers, of a row and of a column
 unfoldable pub oneDimensional : ℤ → ℤ → ℤ → ℤ → List ℤ
@@ -30,3 +31,7 @@ rounded h = shrZ (h +ℤ pos 32) 64
 -- the sixteen residuals r[ i ][ j ], row by row
 unfoldable pub inverse4x4 : List ℤ → List ℤ
 inverse4x4 d = blockOf 4 (λ j i. rounded (at (columnOf d j) i))
+
+-- the residuals of each sixteen numbers of a list, where those stand
+abbrev pub inverseBlocks : List ℤ → List ℤ
+inverseBlocks l = table (length l) (λ i. at (inverse4x4 (table 16 (λ k. at l (i / 16 * 16 + k)))) (i % 16))

@@ -24,20 +24,21 @@ inSquare n off stride i = leb off i && ltb ((i - off) / stride) n && ltb ((i - o
 abbrev pub putSquare : ℕ → ℕ → ℕ → (ℕ → ℕ → ℕ) → List ℕ → List ℕ
 putSquare n off stride u plane = patch (inSquare n off stride) (λ i. u ((i - off) % stride) ((i - off) / stride)) plane
 
--- the sample in column x and row y of a 4x4 block whose prediction stands in a plane from `off` on and whose residual is a list in raster order
-abbrev pub sumIn : List ℤ → List ℕ → ℕ → ℕ → ℕ → ℕ → ℕ
-sumIn res pred off stride x y = Clip1 (pos (getD pred (off + y * stride + x) 0) +ℤ at res (4 * y + x))
+-- the sample in column x and row y of a block of side n whose prediction stands in a plane from `off` on and whose residual is a list in raster order
+abbrev pub sumIn : ℕ → List ℤ → List ℕ → ℕ → ℕ → ℕ → ℕ → ℕ
+sumIn n res pred off stride x y = Clip1 (pos (getD pred (off + y * stride + x) 0) +ℤ at res (n * y + x))
 
--- four rows of four bytes from `off` on, `stride` apart, lie in a buffer of `len` bytes
-abbrev pub rowsIn : ℕ → ℕ → ℕ → Bool
-rowsIn len off stride = leb (off + 3 * stride + 4) len
+-- n rows of n bytes from `off` on, `stride` apart, lie in a buffer of `len` bytes
+abbrev pub rowsIn : ℕ → ℕ → ℕ → ℕ → Bool
+rowsIn n len off stride = leb (off + (n - 1) * stride + n) len
 
--- a call that reads a prediction and writes a block has room: the prediction's stride is 0..4096, the written one 4..4096, and both lie in their buffers
-unfoldable pub intoRoom : ℕ → ℕ → ℕ → ℕ → ℕ → ℕ → Bool
-intoRoom predLen predOff predStride recLen recOff recStride =
-    leb predStride 4096 && leb 4 recStride && leb recStride 4096 && rowsIn predLen predOff predStride && rowsIn recLen recOff recStride
+-- a call that reads a prediction and writes a block of side n has room: the prediction's stride is 0..4096, the written one n..4096, and both lie in their
+-- buffers
+unfoldable pub intoRoom : ℕ → ℕ → ℕ → ℕ → ℕ → ℕ → ℕ → Bool
+intoRoom n predLen predOff predStride recLen recOff recStride =
+    leb predStride 4096 && leb n recStride && leb recStride 4096 && rowsIn n predLen predOff predStride && rowsIn n recLen recOff recStride
 
--- its answer: 2 without room, 8 for a number out of range
+-- the answer of such a call for a 4x4 block: 2 without room, 8 for a number out of range
 abbrev pub intoAnswer : Bool → ℕ → ℕ → ℕ → ℕ → ℕ → ℕ → ℕ
 intoAnswer numbers predLen predOff predStride recLen recOff recStride =
-    answer (2 unless intoRoom predLen predOff predStride recLen recOff recStride ∷ 8 unless numbers ∷ [])
+    answer (2 unless intoRoom 4 predLen predOff predStride recLen recOff recStride ∷ 8 unless numbers ∷ [])

@@ -9,10 +9,10 @@ returns : tie.Need-returns
 returns c = let e = sym (c .before .all-in-range .ensures) ∙ not-true _ (c .if1 .taken) in (rw e, refl)
 
 inverse-core-requires : tie.Need-inverse-core-requires
-inverse-core-requires c κs = sym (c .before .all-in-range .ensures) ∙ not-false _ (c .if1 .left)
+inverse-core-requires c κs = let d = c .before in (search needs, sym (d .before .all-in-range .ensures) ∙ not-false _ (d .if1 .left))
 
 returns-2 : tie.Need-returns-2
-returns-2 c = let e = sym (c .before .before .all-in-range .ensures) ∙ not-false _ (c .before .if1 .left) in (rw e, c .inverse-core .ensures)
+returns-2 c = let d = c .before .before in let e = sym (d .before .all-in-range .ensures) ∙ not-false _ (d .if1 .left) in (rw e, c .inverse-core .ensures)
 
 pub inverse-4x4-spec : {M : Type 1} → statement M
 inverse-4x4-spec =

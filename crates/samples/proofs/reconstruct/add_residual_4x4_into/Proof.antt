@@ -1,12 +1,7 @@
 -- `samples::reconstruct::add_residual_4x4_into` meets its contract: it is `put_checked` of its residuals and their test. Assumes nothing.
-use mathlib.Core.Path.{sym, _∙_}
-use Rattle.samples.proofs.InRange.{all-within}
 use borrow.Author.Needs.{needs}
 use Rattle.samples.proofs.reconstruct.add_residual_4x4_into.Statement.{statement}
 use Rattle.samples.proofs.reconstruct.add_residual_4x4_into.Tie as tie
-
-put-checked-requires : tie.Need-put-checked-requires
-put-checked-requires c κs e = all-within _ (sym (c .before .all-in-range .ensures) ∙ e)
 
 returns : tie.Need-returns
 returns c =
@@ -18,6 +13,6 @@ add-residual-4x4-into-spec =
     tie.close
     (tie.spec
     (λ c κs. search needs)
-    put-checked-requires
+    (λ c κs. search needs)
     (λ c. search needs)
     returns)

@@ -15,27 +15,27 @@ returns-2 : tie.Need-returns-2
 unfolding intoRoom
 returns-2 c =
     let a = c .before .before .args in
-    rw (le-leb (a .p-stride) 4096 (omega arith), lt-leb 4 (a .r-stride) (omega arith))
+    rw (le-leb (a .p-stride) 4096 (omega arith), lt-leb (a .n) (a .r-stride) (omega arith))
 
 returns-3 : tie.Need-returns-3
 unfolding intoRoom
 returns-3 c =
     let a = c .before .before .before .args in
-    rw (le-leb (a .p-stride) 4096 (omega arith), le-leb 4 (a .r-stride) (omega arith), lt-leb (a .r-stride) 4096 (omega arith))
+    rw (le-leb (a .p-stride) 4096 (omega arith), le-leb (a .n) (a .r-stride) (omega arith), lt-leb (a .r-stride) 4096 (omega arith))
 
 returns-4 : tie.Need-returns-4
 unfolding intoRoom
 returns-4 c =
     let a = c .before .before .before .before .before .args in
     let e = sym (c .before .rows-in .ensures) ∙ not-true _ (c .if4 .taken) in
-    rw (le-leb (a .p-stride) 4096 (omega arith), le-leb 4 (a .r-stride) (omega arith), le-leb (a .r-stride) 4096 (omega arith), e)
+    rw (le-leb (a .p-stride) 4096 (omega arith), le-leb (a .n) (a .r-stride) (omega arith), le-leb (a .r-stride) 4096 (omega arith), e)
 
 returns-5 : tie.Need-returns-5
 unfolding intoRoom
 returns-5 c =
     let a = c .before .before .before .before .before .before .args in
     let e = sym (c .before .before .rows-in .ensures) ∙ not-false _ (c .before .if4 .left) in
-    rw (le-leb (a .p-stride) 4096 (omega arith), le-leb 4 (a .r-stride) (omega arith), le-leb (a .r-stride) 4096 (omega arith), e) (c .rows-in2 .ensures)
+    rw (le-leb (a .p-stride) 4096 (omega arith), le-leb (a .n) (a .r-stride) (omega arith), le-leb (a .r-stride) 4096 (omega arith), e) (c .rows-in2 .ensures)
 
 pub into-room-spec : {M : Type 1} → statement M
 into-room-spec =

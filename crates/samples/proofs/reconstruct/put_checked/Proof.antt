@@ -1,4 +1,4 @@
--- `samples::reconstruct::put_checked` meets its contract: the answer 0 says that there is room and that the residuals are in range. Assumes nothing.
+-- `samples::reconstruct::put_checked` meets its contract: the answer 0 says that there is room. Assumes nothing.
 use mathlib.Core.Path.{sym, _∙_}
 use lib.ListN.{length}
 use Rattle.laws.proofs.Answers.{put, refused}
@@ -9,18 +9,18 @@ use Rattle.samples.proofs.reconstruct.put_checked.Tie as tie
 
 put-rows-requires : tie.Need-put-rows-requires
 put-rows-requires c κs =
-    let d = c .before in
-    let u = d .before .before .before .before in
-    let a = u .args in
+    let d = c .before .before in
+    let a = d .before .before .before .before .args in
     let p =
     passed (a .numbers) (length (a .pred .now)) (a .p-off) (a .p-stride) (length (a .rec .now)) (a .r-off) (a .r-stride)
     (sym (d .before .into-answer .ensures) ∙ d .if1 .taken) in
-    (p .0, u .pre (p .1))
+    (search needs, p .0)
 
 returns : tie.Need-returns
 returns c =
-    let d = c .before .before .before .before in
-    (d .before .into-answer .ensures, c .before .before .put-rows .ensures ∙ sym (put _ _ (d .if1 .taken)))
+    let r = c .before .before in
+    let d = r .before .before .before in
+    (d .before .into-answer .ensures, r .put-rows .ensures ∙ sym (put _ _ (d .if1 .taken)))
 
 returns-2 : tie.Need-returns-2
 returns-2 c = (c .before .into-answer .ensures, sym (refused _ _ _ (c .if1 .left)))

@@ -21,19 +21,19 @@ passed : (c : tie.Else1) → let a = c .before .before .before .before .args in 
 passed c = sym (c .before .both-in-range .ensures) ∙ not-false _ (c .if1 .left)
 
 inverse-core-requires : tie.Need-inverse-core-requires
-inverse-core-requires c κs = and-left _ _ (passed c)
+inverse-core-requires c κs = (search needs, and-left _ _ (passed (c .before)))
 
 add-clipped-requires : tie.Need-add-clipped-requires
 add-clipped-requires c κs =
     let i = c .before .before .before in
-    let e = passed (i .before) in
+    let e = passed (i .before .before) in
     ((search needs, search needs), (subst (AllWithin 32768) (sym (i .inverse-core .ensures)) (inverse-within _ (and-left _ _ e)), both-within _ _ e .1))
 
 returns-2 : tie.Need-returns-2
 returns-2 c =
     let i = c .before .before .before .before .before in
-    let a = i .before .before .before .before .before .args in
-    (rw (passed (i .before)), c .before .add-clipped .ensures ∙ ap (λ res. sums 16 res (a .pred .now)) (i .inverse-core .ensures))
+    let a = i .before .before .before .before .before .before .args in
+    (rw (passed (i .before .before)), c .before .add-clipped .ensures ∙ ap (λ res. sums 16 res (a .pred .now)) (i .inverse-core .ensures))
 
 pub reconstruct-4x4-spec : {M : Type 1} → statement M
 reconstruct-4x4-spec =

@@ -1,21 +1,16 @@
 -- `samples::reconstruct::reconstruct_4x4_dc_into` meets its contract: it is `put_checked` of sixteen equal residuals and the test of one. Assumes nothing.
-use mathlib.Core.Path.{_≡_, sym, ap, _∙_}
+use mathlib.Core.Path.{_≡_, ap, _∙_}
 use lib.ListN.{replicate}
 use mir.Facts.{toZ-ofZ}
 use Rattle.laws.specs.Answer.{written}
-use Rattle.laws.proofs.Ints.{within-back, within-replicate}
 use Rattle.samples.specs.Numbers.{inRange}
 use Rattle.samples.specs.Reconstruct.{putSquare, sumIn}
-use Rattle.samples.proofs.InRange.{in-range-within}
 use borrow.Author.Needs.{needs}
 use Rattle.samples.proofs.reconstruct.reconstruct_4x4_dc_into.Statement.{statement}
 use Rattle.samples.proofs.reconstruct.reconstruct_4x4_dc_into.Tie as tie
 
 tested : (c : tie.After-in-range) → c .in-range .result ≡ inRange (c .before .before .before .args .rval)
 tested c = simp (toZ-ofZ, c .before .before .before .fits .rval) at (c .in-range .ensures)
-
-put-checked-requires : tie.Need-put-checked-requires
-put-checked-requires c κs e = within-replicate 32768 16 _ (within-back 32768 _ tt (in-range-within _ (sym (tested (c .before .before)) ∙ e)))
 
 returns : tie.Need-returns
 returns c =
@@ -26,7 +21,7 @@ returns c =
     let p = g .put-checked .ensures in (
       rw (← tested t) (p .0),
       p .1
-          ∙ ap (λ z. written (g .put-checked .result) (a .rec .now) (putSquare 4 (a .r-off) (a .r-stride) (sumIn (replicate 16 z) (a .pred .now) (a .p-off) (a .p-stride)) (a .rec .now)))
+          ∙ ap (λ z. written (g .put-checked .result) (a .rec .now) (putSquare 4 (a .r-off) (a .r-stride) (sumIn 4 (replicate 16 z) (a .pred .now) (a .p-off) (a .p-stride)) (a .rec .now)))
           (toZ-ofZ (u .fits .rval)),
     )
 
@@ -35,6 +30,6 @@ reconstruct-4x4-dc-into-spec =
     tie.close
     (tie.spec
     (λ c κs. search needs)
-    put-checked-requires
+    (λ c κs. search needs)
     (λ c. search needs)
     returns)

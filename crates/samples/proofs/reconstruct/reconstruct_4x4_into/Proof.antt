@@ -1,54 +1,48 @@
--- `samples::reconstruct::reconstruct_4x4_into` meets its contract: coefficients out of range are refused in any case, and else it is `put_checked` of the
--- residuals. Assumes nothing.
-use mathlib.Core.Path.{_≡_, refl, sym, ap, _∙_, subst}
-use mathlib.Core.Bool.{true, false}
-use borrow.Author.Tests.{not-true, not-false}
+-- `samples::reconstruct::reconstruct_4x4_into` meets its contract: the answer 0 says that there is room and that the coefficients are in range. Assumes nothing.
+use mathlib.Core.Path.{_≡_, sym, ap, _∙_}
+use mathlib.Core.Bool.{true}
 use lib.ListN.{length}
-use Rattle.laws.specs.Answer.{written}
-use Rattle.laws.specs.Range.{AllWithin}
-use Rattle.laws.proofs.Answers.{refused}
-use Rattle.laws.proofs.Tests.{not-both}
+use Rattle.laws.proofs.Answers.{put, refused}
 use Rattle.samples.specs.Numbers.{allInRange}
-use Rattle.samples.specs.Reconstruct.{putSquare, sumIn}
+use Rattle.samples.specs.Reconstruct.{putSquare, sumIn, intoRoom, intoAnswer}
 use Rattle.samples.proofs.Rooms.{passed}
-use Rattle.samples.proofs.Transform.{inverse-within}
 use borrow.Author.Needs.{needs}
 use Rattle.samples.proofs.reconstruct.reconstruct_4x4_into.Statement.{statement}
 use Rattle.samples.proofs.reconstruct.reconstruct_4x4_into.Tie as tie
 
-returns : tie.Need-returns
-returns c =
-    let d = c .before in
-    let a = d .before .before .before .before .before .args in
-    let e = sym (d .before .all-in-range .ensures) ∙ not-true _ (d .if1 .taken) in
-    let r = c .into-answer .ensures in (
-      rw e r,
-      sym (refused _ _ _ (λ z. not-both (passed false (length (a .pred .now)) (a .p-off) (a .p-stride) (length (a .rec .now)) (a .r-off) (a .r-stride) (sym r ∙ z) .1) refl)),
-    )
+-- the answer, by the coefficients' own test
+answered : (c : tie.After-into-answer) → let a = c .before .before .before .before .before .args in
+    c .into-answer .result ≡ intoAnswer (allInRange (a .deq .now)) (length (a .pred .now)) (a .p-off) (a .p-stride) (length (a .rec .now)) (a .r-off) (a .r-stride)
+answered c = rw (← c .before .all-in-range .ensures) (c .into-answer .ensures)
 
--- the test passed
-in-range : (c : tie.Else1) → allInRange (c .before .before .before .before .before .args .deq .now) ≡ true
-in-range c = sym (c .before .all-in-range .ensures) ∙ not-false _ (c .if1 .left)
+-- what the answer 0 says
+accepted : (c : tie.Then1) → let a = c .before .before .before .before .before .before .args in
+    (intoRoom 4 (length (a .pred .now)) (a .p-off) (a .p-stride) (length (a .rec .now)) (a .r-off) (a .r-stride) ≡ true) × (allInRange (a .deq .now) ≡ true)
+accepted c =
+    let a = c .before .before .before .before .before .before .args in
+    passed (allInRange (a .deq .now)) (length (a .pred .now)) (a .p-off) (a .p-stride) (length (a .rec .now)) (a .r-off) (a .r-stride)
+    (sym (answered (c .before)) ∙ c .if1 .taken)
 
 inverse-core-requires : tie.Need-inverse-core-requires
-inverse-core-requires c κs = in-range c
+inverse-core-requires c κs = (search needs, accepted (c .before) .1)
 
-put-checked-requires : tie.Need-put-checked-requires
-put-checked-requires c κs e =
-    let i = c .before .before in
-    subst (AllWithin 32768) (sym (i .inverse-core .ensures)) (inverse-within _ (in-range (i .before)))
+put-rows-requires : tie.Need-put-rows-requires
+put-rows-requires c κs = (search needs, accepted (c .before .before .before .before) .0)
+
+returns : tie.Need-returns
+returns c =
+    let r = c .before .before in
+    let i = r .before .before .before in
+    let d = i .before .before in
+    let a = d .before .before .before .before .before .before .args in (
+      answered (d .before),
+      r .put-rows .ensures
+          ∙ ap (λ res. putSquare 4 (a .r-off) (a .r-stride) (sumIn 4 res (a .pred .now) (a .p-off) (a .p-stride)) (a .rec .now)) (i .inverse-core .ensures)
+          ∙ sym (put _ _ (d .if1 .taken)),
+    )
 
 returns-2 : tie.Need-returns-2
-returns-2 c =
-    let g = c .before .before in
-    let i = g .before .before .before in
-    let a = i .before .before .before .before .before .before .args in
-    let p = g .put-checked .ensures in (
-      rw (in-range (i .before)) (p .0),
-      p .1
-          ∙ ap (λ res. written (g .put-checked .result) (a .rec .now) (putSquare 4 (a .r-off) (a .r-stride) (sumIn res (a .pred .now) (a .p-off) (a .p-stride)) (a .rec .now)))
-          (i .inverse-core .ensures),
-    )
+returns-2 c = (answered (c .before), sym (refused _ _ _ (c .if1 .left)))
 
 pub reconstruct-4x4-into-spec : {M : Type 1} → statement M
 reconstruct-4x4-into-spec =
@@ -56,8 +50,9 @@ reconstruct-4x4-into-spec =
     (tie.spec
     (λ c κs. search needs)
     (λ c κs. search needs)
-    returns
     inverse-core-requires
-    put-checked-requires
     (λ c. search needs)
+    put-rows-requires
+    (λ c. search needs)
+    returns
     returns-2)
