@@ -127,12 +127,12 @@ pub fn reconstruct_4x4_into(
     let p_len = pred.len();
     let r_len = rec.len();
     let numbers = all_in_range(deq);
-    let answer = into_answer(numbers, p_len, p_off, p_stride, r_len, r_off, r_stride);
-    if answer == 0 {
+    let refusal = into_answer(numbers, p_len, p_off, p_stride, r_len, r_off, r_stride);
+    if refusal == 0 {
         let res = inverse_core(deq);
         put_rows(1, &res, pred, p_off, p_stride, rec, r_off, r_stride);
     }
-    answer
+    refusal
 }
 
 // The same where all sixteen residuals are `rval`.
