@@ -13,6 +13,7 @@ pub mod PlaneMode
 pub mod Related
 pub mod Rooms
 pub mod Runs
+pub mod Slides
 pub mod Squares
 pub mod Transform
 pub mod Whole

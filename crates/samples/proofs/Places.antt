@@ -81,7 +81,7 @@ module _ (n : ℕ) (p : Near) (t : List ℕ) (low : 2 ≤ n) (high : n ≤ 8) (r
     Is v = getD t i 0 ≡ v
 
     module _ (means : Means n t) where
-      at-downLeft : i ≡ 22 + 2 * (x + y) → Is (downLeft n p x y)
+      pub at-downLeft : i ≡ 22 + 2 * (x + y) → Is (downLeft n p x y)
       unfolding downLeft
       at-downLeft ei =
           choose Is (eqb x (n - 1) && eqb y (n - 1)) _ _
@@ -95,7 +95,7 @@ module _ (n : ℕ) (p : Near) (t : List ℕ) (low : 2 ≤ n) (high : n ≤ 8) (r
           (λ g. let b : y ≡ n - 1 → ⊥ = eqb-false _ _ g in omega arith)
           (and-some (eqb x (n - 1)) (eqb y (n - 1)) h)))
 
-      at-downRight : i ≡ 18 + 2 * x - 2 * y → Is (downRight p x y)
+      pub at-downRight : i ≡ 18 + 2 * x - 2 * y → Is (downRight p x y)
       unfolding downRight
       at-downRight ei =
           choose Is (ltb y x) _ _
@@ -104,7 +104,7 @@ module _ (n : ℕ) (p : Near) (t : List ℕ) (low : 2 ≤ n) (high : n ≤ 8) (r
           (λ h. let l : x < y = ltb-true _ _ h in three-left means _ _ _ _ (omega arith) (omega arith) (omega arith) (omega arith))
           (λ h. three-corner means _ (omega (arith, ltb-false)) ∙ turn (p 0 1) (p 0 0) (p 1 0)))
 
-      at-verticalRight : (y ≤ 2 * x + 1 → i ≡ 19 + 2 * x - y) → (2 * x + 1 < y → i ≡ 20 + 4 * x - 2 * y) → Is (verticalRight p x y)
+      pub at-verticalRight : (y ≤ 2 * x + 1 → i ≡ 19 + 2 * x - y) → (2 * x + 1 < y → i ≡ 20 + 4 * x - 2 * y) → Is (verticalRight p x y)
       unfolding verticalRight
       at-verticalRight here past =
           choose Is (leb y (2 * x)) _ _
@@ -124,7 +124,7 @@ module _ (n : ℕ) (p : Near) (t : List ℕ) (low : 2 ≤ n) (high : n ≤ 8) (r
           three-left means _ _ _ _ (omega arith) (omega arith) (omega arith) (omega arith)
           ∙ turn (p 0 (y - 2 * x - 2)) (p 0 (y - 2 * x - 1)) (p 0 (y - 2 * x))))
 
-      at-horizontalDown : (x ≤ 2 * y + 1 → i ≡ 17 + x - 2 * y) → (2 * y + 1 < x → i ≡ 16 + 2 * x - 4 * y) → Is (horizontalDown p x y)
+      pub at-horizontalDown : (x ≤ 2 * y + 1 → i ≡ 17 + x - 2 * y) → (2 * y + 1 < x → i ≡ 16 + 2 * x - 4 * y) → Is (horizontalDown p x y)
       unfolding horizontalDown
       at-horizontalDown here past =
           choose Is (leb x (2 * y)) _ _
@@ -144,14 +144,14 @@ module _ (n : ℕ) (p : Near) (t : List ℕ) (low : 2 ≤ n) (high : n ≤ 8) (r
           three-above means _ _ _ _ (omega arith) (omega arith) (omega arith) (omega arith)
           ∙ turn (p (x - 2 * y - 2) 0) (p (x - 2 * y - 1) 0) (p (x - 2 * y) 0)))
 
-      at-verticalLeft : i ≡ 21 + 2 * x + y → Is (verticalLeft p x y)
+      pub at-verticalLeft : i ≡ 21 + 2 * x + y → Is (verticalLeft p x y)
       unfolding verticalLeft
       at-verticalLeft ei =
           choose Is (eqb (y % 2) 0) _ _
           (λ f. let even : y % 2 ≡ 0 = eqb-true _ _ f in two-above means _ _ _ (omega arith) (omega arith) (omega arith))
           (λ f. let odd : y % 2 ≡ 0 → ⊥ = eqb-false _ _ f in three-above means _ _ _ _ (omega arith) (omega arith) (omega arith) (omega arith))
 
-      at-horizontalUp : (x + 2 * y ≤ 2 * n - 3 → i ≡ 15 - (x + 2 * y)) → (2 * n - 3 < x + 2 * y → i ≡ 63 - n) → Is (horizontalUp n p x y)
+      pub at-horizontalUp : (x + 2 * y ≤ 2 * n - 3 → i ≡ 15 - (x + 2 * y)) → (2 * n - 3 < x + 2 * y → i ≡ 63 - n) → Is (horizontalUp n p x y)
       unfolding horizontalUp
       at-horizontalUp here past =
           choose Is (ltb (x + 2 * y) (2 * n - 3)) _ _

@@ -1,14 +1,18 @@
 // Intra 4x4 and 8x8 luma prediction (clauses 8.3.1.2 and 8.3.2.2). What the two share is written once over the side n.
 ghost use mathlib.Core.Path.{_≡_};
 ghost use mathlib.Core.Bool.{Bool, cond};
-ghost use Prim.Native.Nat.{_+_, _-_, _*_, _≤_, _<_};
+ghost use mathlib.Core.List.{[], _∷_};
+ghost use Prim.Native.Nat.{_+_, _-_, _*_, _/_, _%_, _≤_, _<_};
+ghost use lib.Dec.{eqb, ltb, leb};
 ghost use lib.ListN.{length, getD, replicate};
-ghost use Rattle.laws.specs.Answer.{written};
-ghost use Rattle.laws.specs.Table.{blockOf};
+ghost use Rattle.laws.specs.Answer.{_unless_, answer, written};
+ghost use Rattle.laws.specs.Table.{blockOf, onto};
 ghost use Rattle.samples.specs.Near.{Near, near, dc};
 ghost use Rattle.samples.specs.IntraNxN.{mean2, mean3, predNxN, pred4x4L, pred8x8L, filtered};
 ghost use Rattle.samples.specs.Marks.{permittedNxN, modeAnswer};
-ghost use Rattle.samples.specs.inner.Run.{Run, Means, Filtered, Placed};
+ghost use Rattle.samples.specs.inner.Run.{Run, Means, Filtered, Placed, slid, pairs};
+use super::line::down;
+use super::line::fill;
 use super::marks::mode_answer;
 use super::marks::permits_nxn;
 use super::mean::mean_of;
@@ -65,19 +69,51 @@ pub fn intra8x8_pred(
     ensures answer { λ r. ⌜ r .answer ≡ modeAnswer 8 (permittedNxN «avail_top» «avail_left» «avail_corner») mode ⌝ }
     ensures block { λ r. ⌜ r .block ≡ written (r .answer) (replicate 64 0) (blockOf 8 (pred8x8L mode «avail_top» «avail_left» «avail_corner» (near (now (top .entry)) (now (left .entry)) corner))) ⌝ }
 {
+    let mut block = [0u8; 64];
+    let answer = intra8x8_pred_into(
+        mode,
+        avail_top,
+        avail_left,
+        avail_corner,
+        top,
+        left,
+        corner,
+        &mut block,
+    );
+    Pred8x8 { answer, block }
+}
+
+// The same over lists, the block put into lent memory.
+pub fn intra8x8_pred_into(
+    mode: u8,
+    avail_top: bool,
+    avail_left: bool,
+    avail_corner: bool,
+    top: &[u8],
+    left: &[u8],
+    corner: u8,
+    out: &mut [u8],
+) -> u32
+    ensures answer { λ r. ⌜ r ≡ answer (2 unless eqb (length (now (top .entry))) 16 ∷ 2 unless eqb (length (now (left .entry))) 8 ∷ 2 unless eqb (length (now (out .entry))) 64 ∷ 6 unless leb mode 8 ∷ 7 unless permittedNxN «avail_top» «avail_left» «avail_corner» mode ∷ []) ⌝ }
+    ensures lent { λ r. ⌜ now (out .exit) ≡ written r (now (out .entry)) (blockOf 8 (pred8x8L mode «avail_top» «avail_left» «avail_corner» (near (now (top .entry)) (now (left .entry)) corner))) ⌝ }
+{
+    if top.len() != 16 {
+        return 2;
+    }
+    if left.len() != 8 {
+        return 2;
+    }
+    if out.len() != 64 {
+        return 2;
+    }
     let answer = answer_of(mode, avail_top, avail_left, avail_corner);
     if answer != 0 {
-        return Pred8x8 {
-            answer,
-            block: [0u8; 64],
-        };
+        return answer;
     }
     let raw = run_of(8, top, left, corner);
     let e = filtered_of(8, &raw, avail_top, avail_left, avail_corner);
-    Pred8x8 {
-        answer,
-        block: draw8(mode, avail_top, avail_left, e),
-    }
+    draw8(mode, avail_top, avail_left, &e, out);
+    0
 }
 
 fn answer_of(mode: u8, avail_top: bool, avail_left: bool, avail_corner: bool) -> u32
@@ -90,7 +126,7 @@ fn answer_of(mode: u8, avail_top: bool, avail_left: bool, avail_corner: bool) ->
     )
 }
 
-// The block of a mode, from the run: a function for each side, so that the side is a constant where the code is compiled.
+// The 4x4 block of a mode, from the run.
 fn draw4(mode: u8, above: bool, left: bool, e: [u8; 81]) -> [u8; 16]
     requires { ⌜ mode ≤ 8 ⌝ }
     ensures { λ r. ⌜ ((p : Near) → Run 4 p e → r ≡ blockOf 4 (predNxN 4 mode above left p)) ⌝ }
@@ -103,18 +139,6 @@ fn draw4(mode: u8, above: bool, left: bool, e: [u8; 81]) -> [u8; 16]
     fill4(mode, &t)
 }
 
-fn draw8(mode: u8, above: bool, left: bool, e: [u8; 81]) -> [u8; 64]
-    requires { ⌜ mode ≤ 8 ⌝ }
-    ensures { λ r. ⌜ ((p : Near) → Run 8 p e → r ≡ blockOf 8 (predNxN 8 mode above left p)) ⌝ }
-{
-    if mode == 2 {
-        let v = dc_of(8, &e, above, left);
-        return [v; 64];
-    }
-    let t = with_means(8, mode, e);
-    fill8(mode, &t)
-}
-
 // The same for a mode but DC, each sample picked from its place.
 fn fill4(mode: u8, t: &[u8; 81]) -> [u8; 16]
     requires { ⌜ (mode ≤ 8) × (mode ≡ 2 → ⊥) ⌝ }
@@ -125,20 +149,6 @@ fn fill4(mode: u8, t: &[u8; 81]) -> [u8; 16]
         for x in 0..4 {
             let i = place_of(mode, 4, x, y);
             out[y * 4 + x] = t[i];
-        }
-    }
-    out
-}
-
-fn fill8(mode: u8, t: &[u8; 81]) -> [u8; 64]
-    requires { ⌜ (mode ≤ 8) × (mode ≡ 2 → ⊥) ⌝ }
-    ensures { λ r. ⌜ ((p : Near) (a l : Bool) → Run 8 p (now (t .entry)) → (2 < mode → Means 8 (now (t .entry))) → r ≡ blockOf 8 (predNxN 8 mode a l p)) ⌝ }
-{
-    let mut out = [0u8; 64];
-    for y in 0..8 {
-        for x in 0..8 {
-            let i = place_of(mode, 8, x, y);
-            out[y * 8 + x] = t[i];
         }
     }
     out
@@ -211,6 +221,173 @@ fn with_means(n: usize, mode: u8, e: [u8; 81]) -> [u8; 81]
     for k in 9 - n..10 + 2 * n {
         t[2 * k] = mean3(t[53 + k], t[54 + k], t[55 + k]);
         t[2 * k + 1] = mean2(t[54 + k], t[55 + k]);
+    }
+    t
+}
+
+// The 8x8 block of a mode, from the run: every row is a piece of one line, copied as a whole.
+fn draw8(mode: u8, above: bool, left: bool, e: &[u8; 81], out: &mut [u8])
+    requires { ⌜ (mode ≤ 8) × (length (now out) ≡ 64) ⌝ }
+    ensures { λ _. ⌜ ((p : Near) → Run 8 p (now (e .entry)) → now (out .exit) ≡ blockOf 8 (predNxN 8 mode above left p)) ⌝ }
+{
+    if mode < 1 {
+        let run = &e[..];
+        down(8, &run[64..], out);
+        return;
+    }
+    if mode < 2 {
+        beside8(e, out);
+        return;
+    }
+    if mode < 3 {
+        fill(dc_of(8, e, above, left), 64, out);
+        return;
+    }
+    slant8(mode, e, out);
+}
+
+// The modes from 3 on, from the means of the run.
+fn slant8(mode: u8, e: &[u8; 81], out: &mut [u8])
+    requires { ⌜ (3 ≤ mode) × (mode ≤ 8) × (length (now out) ≡ 64) ⌝ }
+    ensures { λ _. ⌜ ((p : Near) (above left : Bool) → Run 8 p (now (e .entry)) → now (out .exit) ≡ blockOf 8 (predNxN 8 mode above left p)) ⌝ }
+{
+    let three = threes(e);
+    if mode < 4 {
+        slide(&three, 11, &three, 12, 2, 0, out);
+        return;
+    }
+    if mode < 5 {
+        slide(&three, 9, &three, 8, 0, 2, out);
+        return;
+    }
+    let two = twos(e);
+    if mode < 6 {
+        let even = steep(&three, 4, &two);
+        let odd = steep(&three, 3, &three);
+        slide(&even, 3, &odd, 3, 0, 1, out);
+        return;
+    }
+    if mode < 7 {
+        let line = flat_down(&three, &two);
+        slide(&line, 14, &line, 12, 0, 4, out);
+        return;
+    }
+    if mode < 8 {
+        slide(&two, 10, &three, 11, 1, 0, out);
+        return;
+    }
+    let line = flat_up(&three, &two, e[55]);
+    slide(&line, 0, &line, 2, 4, 0, out);
+}
+
+// Eight rows, each a window of a line: row 2z of `even` from `a` on and row 2z + 1 of `odd` from `b` on, for every z `up` further or `back` less far.
+fn slide(
+    even: &[u8; 32],
+    a: usize,
+    odd: &[u8; 32],
+    b: usize,
+    up: usize,
+    back: usize,
+    out: &mut [u8],
+)
+    requires { ⌜ (3 * back ≤ a) × (3 * back ≤ b) × (a + 3 * up ≤ 24) × (b + 3 * up ≤ 24) × (64 ≤ length (now out)) ⌝ }
+    ensures { λ _. ⌜ now (out .exit) ≡ onto 64 (λ k. slid (now (even .entry)) a (now (odd .entry)) b up back (k % 8) (k / 8)) (now (out .entry)) ⌝ }
+{
+    for z in 0..4 {
+        window(even, moved(a, up, back, z), &mut out[16 * z..]);
+        window(odd, moved(b, up, back, z), &mut out[16 * z + 8..]);
+    }
+}
+
+fn moved(at: usize, up: usize, back: usize, z: usize) -> usize
+    requires { ⌜ (z ≤ 3) × (3 * back ≤ at) × (at + 3 * up ≤ 24) ⌝ }
+    ensures { λ r. ⌜ (r ≡ at + up * z - back * z) × (r ≤ 24) ⌝ }
+{
+    at + up * z - back * z
+}
+
+// Eight samples of a line, from `at` on.
+fn window(line: &[u8; 32], at: usize, row: &mut [u8])
+    requires { ⌜ (at ≤ 24) × (8 ≤ length (now row)) ⌝ }
+    ensures { λ _. ⌜ now (row .exit) ≡ onto 8 (λ i. getD (now (line .entry)) (at + i) 0) (now (row .entry)) ⌝ }
+{
+    for i in 0..8 {
+        row[i] = line[at + i];
+    }
+}
+
+// Eight rows, each its sample to the left.
+fn beside8(e: &[u8; 81], out: &mut [u8])
+    requires { ⌜ 64 ≤ length (now out) ⌝ }
+    ensures { λ _. ⌜ now (out .exit) ≡ onto 64 (λ k. getD (now (e .entry)) (62 - k / 8) 0) (now (out .entry)) ⌝ }
+{
+    for y in 0..8 {
+        fill(e[62 - y], 8, &mut out[8 * y..]);
+    }
+}
+
+// The lines of the modes from 5 on. Vertical right: below the corner every other mean of three from `first` on, then the means of the row.
+fn steep(three: &[u8; 32], first: usize, rest: &[u8; 32]) -> [u8; 32]
+    requires { ⌜ first ≤ 4 ⌝ }
+    ensures { λ r. ⌜ r ≡ onto 11 (λ j. cond (ltb j 3) (getD (now (three .entry)) (first + 2 * j) 0) (getD (now (rest .entry)) (6 + j) 0)) (replicate 32 0) ⌝ }
+{
+    let mut line = [0u8; 32];
+    for j in 0..3 {
+        line[j] = three[first + 2 * j];
+    }
+    for j in 3..11 {
+        line[j] = rest[6 + j];
+    }
+    line
+}
+
+// Horizontal down: the means of two and of three in turn up to the corner, then those of three alone.
+fn flat_down(three: &[u8; 32], two: &[u8; 32]) -> [u8; 32]
+    ensures { λ r. ⌜ r ≡ onto 22 (pairs 16 (λ i. getD (now (two .entry)) (1 + i) 0) (λ i. getD (now (three .entry)) (2 + i) 0) (λ j. getD (now (three .entry)) (j - 6) 0)) (replicate 32 0) ⌝ }
+{
+    let mut line = [0u8; 32];
+    for i in 0..8 {
+        line[2 * i] = two[1 + i];
+        line[2 * i + 1] = three[2 + i];
+    }
+    for j in 16..22 {
+        line[j] = three[j - 6];
+    }
+    line
+}
+
+// Horizontal up: the means of two and of three in turn down to the last sample, then that one.
+fn flat_up(three: &[u8; 32], two: &[u8; 32], last: u8) -> [u8; 32]
+    ensures { λ r. ⌜ r ≡ onto 22 (pairs 14 (λ i. getD (now (two .entry)) (7 - i) 0) (λ i. getD (now (three .entry)) (7 - i) 0) (λ _. last)) (replicate 32 0) ⌝ }
+{
+    let mut line = [0u8; 32];
+    for i in 0..7 {
+        line[2 * i] = two[7 - i];
+        line[2 * i + 1] = three[7 - i];
+    }
+    for j in 14..22 {
+        line[j] = last;
+    }
+    line
+}
+
+// The means of the run in lines of their own: of three around place 54 + k, and of two from there on.
+fn threes(e: &[u8; 81]) -> [u8; 32]
+    ensures { λ r. ⌜ r ≡ onto 26 (λ k. mean3 (getD (now (e .entry)) (53 + k) 0) (getD (now (e .entry)) (54 + k) 0) (getD (now (e .entry)) (55 + k) 0)) (replicate 32 0) ⌝ }
+{
+    let mut t = [0u8; 32];
+    for k in 0..26 {
+        t[k] = mean3(e[53 + k], e[54 + k], e[55 + k]);
+    }
+    t
+}
+
+fn twos(e: &[u8; 81]) -> [u8; 32]
+    ensures { λ r. ⌜ r ≡ onto 26 (λ k. mean2 (getD (now (e .entry)) (54 + k) 0) (getD (now (e .entry)) (55 + k) 0)) (replicate 32 0) ⌝ }
+{
+    let mut t = [0u8; 32];
+    for k in 0..26 {
+        t[k] = mean2(e[54 + k], e[55 + k]);
     }
     t
 }

@@ -1,7 +1,9 @@
 -- The one list of 81 that the 4x4 and 8x8 predictors work on: from 54 on the run of a block's neighbours, and before it means of the run.
 use mathlib.Core.Path.{_≡_}
+use mathlib.Core.Bool.{cond}
 use mathlib.Core.List.{List}
-use Prim.Native.Nat.{ℕ, _+_, _-_, _*_, _≤_, _<_}
+use Prim.Native.Nat.{ℕ, _+_, _-_, _*_, _/_, _%_, _≤_, _<_}
+use lib.Dec.{eqb, ltb}
 use lib.ListN.{getD, length}
 use Rattle.samples.specs.IntraNxN.{mean2, mean3}
 use Rattle.samples.specs.Near.{Near}
@@ -41,3 +43,11 @@ pub record Placed (mode n x y i : ℕ) : Type 0 where
   pub at-7 : mode ≡ 7 → i ≡ 21 + 2 * x + y
   pub at-8 : mode ≡ 8 → x + 2 * y ≤ 2 * n - 3 → i ≡ 15 - (x + 2 * y)
   pub past-8 : mode ≡ 8 → 2 * n - 3 < x + 2 * y → i ≡ 63 - n
+
+-- the sample in column x and row y of a block whose rows are windows of two lines in turn
+abbrev pub slid : List ℕ → ℕ → List ℕ → ℕ → ℕ → ℕ → ℕ → ℕ → ℕ
+slid even a odd b up back x y = cond (eqb (y % 2) 0) (getD even (a + up * (y / 2) - back * (y / 2) + x) 0) (getD odd (b + up * (y / 2) - back * (y / 2) + x) 0)
+
+-- a line that takes from two rules in turn, f 0, g 0, f 1, g 1, .., up to place m, and from then on from h
+abbrev pub pairs : ℕ → (ℕ → ℕ) → (ℕ → ℕ) → (ℕ → ℕ) → ℕ → ℕ
+pairs m f g h j = cond (ltb j m) (cond (eqb (j % 2) 0) (f (j / 2)) (g (j / 2))) (h j)

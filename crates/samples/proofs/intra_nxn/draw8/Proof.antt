@@ -1,21 +1,66 @@
--- `samples::intra_nxn::draw8` meets its contract: DC is one sample everywhere, and every other mode is drawn from the run and its means. Assumes nothing.
-use Rattle.samples.proofs.Places.{flat}
+-- `samples::intra_nxn::draw8` meets its contract, mode by mode: vertical, horizontal, DC, and those that take means. Assumes nothing.
+use mathlib.Core.Path.{_≡_, refl, ap, _∙_}
+use Prim.Native.Nat.{ℕ, _+_, _-_}
+use native.Mathlib.Omega.{arith}
+use denote.Ref.{now}
+use lib.ListN.{length, getD, take, drop}
+use lib.Seq.{getD-take, getD-drop}
+use Rattle.samples.specs.IntraNxN.{predNxN}
+use Rattle.samples.proofs.Slides.{rows-are}
 use borrow.Author.Needs.{needs}
 use Rattle.samples.proofs.intra_nxn.draw8.Statement.{statement}
 use Rattle.samples.proofs.intra_nxn.draw8.Tie as tie
 
 returns : tie.Need-returns
-returns c p run = flat 8 _ _ _ p (c .before .before .if1 .taken) (c .dc-of .ensures p run)
+unfolding predNxN
+returns c p run =
+    let d = c .before .before in
+    let z = d .before .before .before .before .before .before in
+    let h : z .args .mode ≡ 0 = omega arith in
+    let e = now (z .args .e) in
+    rows-are (λ x y. getD (take (length e - 64) (drop 64 e)) x 0) (predNxN 8 (z .args .mode) (z .args .above) (z .args .left) p) (now (z .args .out)) (z .pre .1) (d .down .ensures)
+    (λ x y hx hy. rw h (getD-take (length e - 64) (drop 64 e) x 0 (omega (arith, run .size)) ∙ getD-drop 64 e x 0 ∙ ap (λ (k : ℕ). getD e k 0) (omega arith) ∙ run .above (x + 1) (omega arith)))
 
 returns-2 : tie.Need-returns-2
-returns-2 c p run = let m = c .before .before .with-means .ensures in c .fill8 .ensures p _ _ (m .0 p run) (m .1)
+unfolding predNxN
+returns-2 c p run =
+    let d = c .before .before in
+    let z = d .before .before .before .before .before in
+    let e = now (z .args .e) in
+    let h : z .args .mode ≡ 1 = omega arith in
+    rows-are (λ x y. getD e (62 - y) 0) (predNxN 8 (z .args .mode) (z .args .above) (z .args .left) p) (now (z .args .out)) (z .pre .1) (d .beside8 .ensures)
+    (λ x y hx hy. rw h (ap (λ (k : ℕ). getD e k 0) (omega arith) ∙ run .left (y + 1) (omega arith)))
+
+returns-3 : tie.Need-returns-3
+unfolding predNxN
+returns-3 c p run =
+    let d = c .before .before in
+    let v = d .before .before in
+    let z = v .before .before .before .before .before in
+    let h : z .args .mode ≡ 2 = omega arith in
+    rows-are (λ x y. v .dc-of .result) (predNxN 8 (z .args .mode) (z .args .above) (z .args .left) p) (now (z .args .out)) (z .pre .1) (d .fill .ensures)
+    (λ x y hx hy. rw h (v .dc-of .ensures p run))
+
+returns-4 : tie.Need-returns-4
+returns-4 c p run = let d = c .before .before in d .slant8 .ensures p _ _ run
 
 pub draw8-spec : {M : Type 1} → statement M
 draw8-spec =
     tie.close
     (tie.spec
+    (λ c. search needs)
+    (λ c. search needs)
+    (λ c. search needs)
     (λ c κs. search needs)
+    (λ c. search needs)
     returns
     (λ c κs. search needs)
+    (λ c. search needs)
+    returns-2
     (λ c κs. search needs)
-    returns-2)
+    (λ c κs. search needs)
+    (λ c. search needs)
+    returns-3
+    (λ c κs. search needs)
+    (λ c. search needs)
+    returns-4)

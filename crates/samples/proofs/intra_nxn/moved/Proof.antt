@@ -1,0 +1,37 @@
+-- `samples::intra_nxn::moved` meets its contract: three steps at most stay in the line. Assumes nothing.
+use mathlib.Core.Path.{refl}
+use Prim.Native.Nat.{_*_, _≤_}
+use native.Mathlib.Omega.{arith}
+use Rattle.laws.proofs.Digits.{mul-most}
+use Rattle.samples.proofs.intra_nxn.moved.Statement.{statement}
+use Rattle.samples.proofs.intra_nxn.moved.Tie as tie
+
+steps : (c : tie.Start) → (c .args .up * c .args .z ≤ c .args .up * 3) × (c .args .back * c .args .z ≤ c .args .back * 3)
+steps c =
+    let a = c .args in
+    (mul-most (a .up) (a .z) (a .up) 3 (omega arith) (c .pre .0), mul-most (a .back) (a .z) (a .back) 3 (omega arith) (c .pre .0))
+
+mul-result : tie.Need-mul-result
+mul-result c = omega (arith, steps c)
+
+add-result : tie.Need-add-result
+add-result c = omega (arith, steps c)
+
+mul-result-2 : tie.Need-mul-result-2
+mul-result-2 c = omega (arith, steps c)
+
+sub-result : tie.Need-sub-result
+sub-result c = omega (arith, steps c)
+
+returns : tie.Need-returns
+returns c = (refl, omega (arith, steps c))
+
+pub moved-spec : {M : Type 1} → statement M
+moved-spec =
+    tie.close
+    (tie.spec
+    mul-result
+    add-result
+    mul-result-2
+    sub-result
+    returns)
