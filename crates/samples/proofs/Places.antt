@@ -1,19 +1,17 @@
 -- Every sample of a mode but DC stands at its place: once over the side. Assumes nothing.
-use mathlib.Core.Path.{_≡_, sym, ap, _∙_}
+use mathlib.Core.Path.{_≡_, ap, _∙_}
 use mathlib.Core.Bool.{Bool, _&&_}
 use mathlib.Core.List.{List}
 use mathlib.Core.Logic.{⊎-elim}
 use Prim.Native.Nat.{ℕ, _+_, _-_, _*_, _/_, _%_, _≤_, _<_}
 use native.Mathlib.Omega.{arith}
 use lib.Dec.{eqb, ltb, leb}
-use lib.ListN.{getD, length, set, replicate}
+use lib.ListN.{getD, length, set}
 use borrow.Author.Tests.{ltb-true, ltb-false, leb-true, leb-false, eqb-true, eqb-false}
-use Rattle.laws.specs.Table.{blockOf}
 use Rattle.laws.proofs.Blocks.{Block, block-none, block-at, block-more}
-use Rattle.laws.proofs.Tables.{table-const}
 use Rattle.laws.proofs.Tests.{choose, and-both, and-some}
 use Rattle.samples.specs.IntraNxN.{mean2, mean3, downLeft, downRight, verticalRight, horizontalDown, verticalLeft, horizontalUp, predNxN}
-use Rattle.samples.specs.Near.{Near, dc}
+use Rattle.samples.specs.Near.{Near}
 use Rattle.samples.specs.inner.Run.{Run, Means, Placed}
 
 -- the means do not mind the order
@@ -200,8 +198,3 @@ module _ (mode n : ℕ) (t : List ℕ) where
       → Drawn mode n t (y * n + x) out → Drawn mode n t (y * n + (x + 1)) (set out (y * n + x) (getD t i 0))
   drawn-more x y i out low high ok hx hy at d =
       record { so = λ p a l r m. block-more x y hx hy (at-place n p t low high r x y i hx hy mode a l (ok .0) (ok .1) m at) (d .so p a l r m) }
-
--- ---- DC: one sample everywhere
-pub flat : (n mode : ℕ) (above left : Bool) (p : Near) {v : ℕ} → mode ≡ 2 → v ≡ dc n above left p → replicate (n * n) v ≡ blockOf n (predNxN n mode above left p)
-unfolding predNxN
-flat n mode above left p {v} two e = rw (two, e) (sym (table-const (n * n) (dc n above left p)))

@@ -1,7 +1,7 @@
 -- The rows of an 8x8 block are windows of lines of means: what stands in the lines is what Places says of the run and its means in one list.
 -- Assumes nothing.
 use mathlib.Core.Path.{_≡_, refl, sym, ap, _∙_}
-use mathlib.Core.Bool.{Bool, cond}
+use mathlib.Core.Bool.{cond}
 use mathlib.Core.List.{List}
 use Prim.Native.Nat.{ℕ, _+_, _-_, _*_, _/_, _%_, _≤_, _<_}
 use native.Mathlib.Omega.{arith}
@@ -14,7 +14,7 @@ use Rattle.laws.proofs.Blocks.{block-same}
 use Rattle.laws.proofs.Ontos.{onto-more, onto-at, onto-long, onto-all}
 use Rattle.laws.proofs.Tables.{length-table}
 use Rattle.laws.proofs.Tests.{choose}
-use Rattle.samples.specs.IntraNxN.{mean2, mean3, downLeft, downRight, verticalRight, horizontalDown, verticalLeft, horizontalUp, predNxN}
+use Rattle.samples.specs.IntraNxN.{mean2, mean3, downLeft, downRight, verticalRight, horizontalDown, verticalLeft, horizontalUp}
 use Rattle.samples.specs.Near.{Near}
 use Rattle.samples.specs.inner.Run.{Run, Means, slid, pairs}
 use Rattle.samples.proofs.Places.{at-downLeft, at-downRight, at-verticalRight, at-horizontalDown, at-verticalLeft, at-horizontalUp}
@@ -49,10 +49,10 @@ module _ (even : List ℕ) (a : ℕ) (odd : List ℕ) (b up back z i r : ℕ) (h
       rw (e, column, row, ne-eqb ((2 * z + 1) % 2) 0 (omega arith), half)
 
 -- ---- what stands in the lines of means
--- a block of rows, sample by sample
-pub rows-are : (f g : ℕ → ℕ → ℕ) (old : List ℕ) {out : List ℕ} → length old ≡ 64 → out ≡ onto 64 (λ k. f (k % 8) (k / 8)) old
-    → ((x y : ℕ) → x < 8 → y < 8 → f x y ≡ g x y) → out ≡ blockOf 8 g
-rows-are f g old len e h = e ∙ onto-all 64 _ old len ∙ block-same 8 f g h
+-- a whole block, sample by sample
+pub rows-are : (n : ℕ) (f g : ℕ → ℕ → ℕ) (old : List ℕ) {out : List ℕ} → length old ≡ n * n → out ≡ onto (n * n) (λ k. f (k % n) (k / n)) old
+    → ((x y : ℕ) → x < n → y < n → f x y ≡ g x y) → out ≡ blockOf n g
+rows-are n f g old len e h = e ∙ onto-all (n * n) _ old len ∙ block-same n f g h
 
 module _ (p : Near) (e three two : List ℕ) (run : Run 8 p e)
     (is-three : three ≡ onto 26 (λ k. mean3 (getD e (53 + k) 0) (getD e (54 + k) 0) (getD e (55 + k) 0)) (replicate 32 0))

@@ -1,9 +1,10 @@
 // Intra 16x16 luma prediction (clause 8.3.3): 0 vertical, 1 horizontal, 2 DC, 3 plane.
 ghost use mathlib.Core.Path.{_≡_};
 ghost use Prim.Native.Nat.{ℕ, _≤_};
-ghost use mathlib.Core.List.{_++_};
+ghost use mathlib.Core.List.{[], _∷_, _++_};
+ghost use lib.Dec.{eqb, leb};
 ghost use lib.ListN.{length, drop, replicate};
-ghost use Rattle.laws.specs.Answer.{written};
+ghost use Rattle.laws.specs.Answer.{_unless_, answer, written};
 ghost use Rattle.laws.specs.Table.{blockOf};
 ghost use Rattle.samples.specs.Intra16x16.{predL};
 ghost use Rattle.samples.specs.Marks.{permitted16x16, modeAnswer};
@@ -44,17 +45,54 @@ pub fn luma16x16_pred(
     ensures block { λ r. ⌜ r .block ≡ written (r .answer) (replicate 256 0)
         (blockOf 16 (predL mode «avail_top» «avail_left» (near (now (top .entry)) (now (left .entry)) corner))) ⌝ }
 {
-    let mut out = [0u8; 256];
+    let mut block = [0u8; 256];
+    let answer = luma16x16_pred_into(
+        mode,
+        avail_top,
+        avail_left,
+        avail_corner,
+        top,
+        left,
+        corner,
+        &mut block,
+    );
+    Pred16x16 { answer, block }
+}
+
+// The same over lists, the block put into lent memory.
+pub fn luma16x16_pred_into(
+    mode: u8,
+    avail_top: bool,
+    avail_left: bool,
+    avail_corner: bool,
+    top: &[u8],
+    left: &[u8],
+    corner: u8,
+    out: &mut [u8],
+) -> u32
+    ensures answer { λ r. ⌜ r ≡ answer (2 unless eqb (length (now (top .entry))) 16 ∷ 2 unless eqb (length (now (left .entry))) 16 ∷ 2 unless eqb (length (now (out .entry))) 256 ∷ 6 unless leb mode 3 ∷ 7 unless permitted16x16 «avail_top» «avail_left» «avail_corner» mode ∷ []) ⌝ }
+    ensures lent { λ r. ⌜ now (out .exit) ≡ written r (now (out .entry))
+        (blockOf 16 (predL mode «avail_top» «avail_left» (near (now (top .entry)) (now (left .entry)) corner))) ⌝ }
+{
+    if top.len() != 16 {
+        return 2;
+    }
+    if left.len() != 16 {
+        return 2;
+    }
+    if out.len() != 256 {
+        return 2;
+    }
     let answer = mode_answer(
         mode,
         3,
         permits_16x16(mode, avail_top, avail_left, avail_corner),
     );
     if answer != 0 {
-        return Pred16x16 { answer, block: out };
+        return answer;
     }
-    predict_16x16(mode, avail_top, avail_left, top, left, corner, &mut out);
-    Pred16x16 { answer, block: out }
+    predict_16x16(mode, avail_top, avail_left, top, left, corner, out);
+    0
 }
 
 // The block of a mode over the first 256 bytes of `out`.

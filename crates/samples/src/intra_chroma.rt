@@ -1,16 +1,18 @@
 // Intra prediction of an 8x8 block of chroma samples (clause 8.3.4): 0 DC, 1 horizontal, 2 vertical, 3 plane.
 ghost use mathlib.Core.Path.{_≡_};
 ghost use mathlib.Core.Bool.{not, _&&_};
-ghost use mathlib.Core.List.{_++_};
+ghost use mathlib.Core.List.{[], _∷_, _++_};
 ghost use Prim.Native.Nat.{ℕ, _+_, _*_, _/_, _%_, _≤_};
+ghost use lib.Dec.{eqb, leb};
 ghost use lib.ListN.{length, getD, drop, replicate};
-ghost use Rattle.laws.specs.Answer.{written};
+ghost use Rattle.laws.specs.Answer.{_unless_, answer, written};
 ghost use Rattle.laws.specs.Table.{table, blockOf, onto};
 ghost use Rattle.samples.specs.IntraChroma.{regionDc, chromaDc, predC};
 ghost use Rattle.samples.specs.Marks.{permittedChroma, modeAnswer};
 ghost use Rattle.samples.specs.Near.{near};
 use super::line::across;
 use super::line::down;
+use super::line::fill;
 use super::line::sum_of;
 use super::marks::mode_answer;
 use super::marks::permits_chroma;
@@ -46,17 +48,54 @@ pub fn chroma8x8_pred(
     ensures block { λ r. ⌜ r .block ≡ written (r .answer) (replicate 64 0)
         (blockOf 8 (predC mode «avail_top» «avail_left» (near (now (top .entry)) (now (left .entry)) corner))) ⌝ }
 {
-    let mut out = [0u8; 64];
+    let mut block = [0u8; 64];
+    let answer = chroma8x8_pred_into(
+        mode,
+        avail_top,
+        avail_left,
+        avail_corner,
+        top,
+        left,
+        corner,
+        &mut block,
+    );
+    PredChroma { answer, block }
+}
+
+// The same over lists, the block put into lent memory.
+pub fn chroma8x8_pred_into(
+    mode: u8,
+    avail_top: bool,
+    avail_left: bool,
+    avail_corner: bool,
+    top: &[u8],
+    left: &[u8],
+    corner: u8,
+    out: &mut [u8],
+) -> u32
+    ensures answer { λ r. ⌜ r ≡ answer (2 unless eqb (length (now (top .entry))) 8 ∷ 2 unless eqb (length (now (left .entry))) 8 ∷ 2 unless eqb (length (now (out .entry))) 64 ∷ 6 unless leb mode 3 ∷ 7 unless permittedChroma «avail_top» «avail_left» «avail_corner» mode ∷ []) ⌝ }
+    ensures lent { λ r. ⌜ now (out .exit) ≡ written r (now (out .entry))
+        (blockOf 8 (predC mode «avail_top» «avail_left» (near (now (top .entry)) (now (left .entry)) corner))) ⌝ }
+{
+    if top.len() != 8 {
+        return 2;
+    }
+    if left.len() != 8 {
+        return 2;
+    }
+    if out.len() != 64 {
+        return 2;
+    }
     let answer = mode_answer(
         mode,
         3,
         permits_chroma(mode, avail_top, avail_left, avail_corner),
     );
     if answer != 0 {
-        return PredChroma { answer, block: out };
+        return answer;
     }
-    predict_chroma(mode, avail_top, avail_left, top, left, corner, &mut out);
-    PredChroma { answer, block: out }
+    predict_chroma(mode, avail_top, avail_left, top, left, corner, out);
+    0
 }
 
 // The block of a mode over the first 64 bytes of `out`.
@@ -128,7 +167,8 @@ fn spread(d: &[u8; 4], out: &mut [u8])
     requires { ⌜ 64 ≤ length (now out) ⌝ }
     ensures { λ _. ⌜ now (out .exit) ≡ onto 64 (λ k. getD (now (d .entry)) (k / 32 * 2 + k % 8 / 4) 0) (now (out .entry)) ⌝ }
 {
-    for k in 0..64 {
-        out[k] = d[k / 32 * 2 + k % 8 / 4];
+    for y in 0..8 {
+        fill(d[y / 4 * 2], 4, &mut out[8 * y..]);
+        fill(d[y / 4 * 2 + 1], 4, &mut out[8 * y + 4..]);
     }
 }

@@ -42,18 +42,50 @@ pub fn intra4x4_pred(
     ensures answer { λ r. ⌜ r .answer ≡ modeAnswer 8 (permittedNxN «avail_top» «avail_left» «avail_corner») mode ⌝ }
     ensures block { λ r. ⌜ r .block ≡ written (r .answer) (replicate 16 0) (blockOf 4 (pred4x4L mode «avail_top» «avail_left» «avail_corner» (near (now (top .entry)) (now (left .entry)) corner))) ⌝ }
 {
+    let mut block = [0u8; 16];
+    let answer = intra4x4_pred_into(
+        mode,
+        avail_top,
+        avail_left,
+        avail_corner,
+        top,
+        left,
+        corner,
+        &mut block,
+    );
+    Pred4x4 { answer, block }
+}
+
+// The same over lists, the block put into lent memory.
+pub fn intra4x4_pred_into(
+    mode: u8,
+    avail_top: bool,
+    avail_left: bool,
+    avail_corner: bool,
+    top: &[u8],
+    left: &[u8],
+    corner: u8,
+    out: &mut [u8],
+) -> u32
+    ensures answer { λ r. ⌜ r ≡ answer (2 unless eqb (length (now (top .entry))) 8 ∷ 2 unless eqb (length (now (left .entry))) 4 ∷ 2 unless eqb (length (now (out .entry))) 16 ∷ 6 unless leb mode 8 ∷ 7 unless permittedNxN «avail_top» «avail_left» «avail_corner» mode ∷ []) ⌝ }
+    ensures lent { λ r. ⌜ now (out .exit) ≡ written r (now (out .entry)) (blockOf 4 (pred4x4L mode «avail_top» «avail_left» «avail_corner» (near (now (top .entry)) (now (left .entry)) corner))) ⌝ }
+{
+    if top.len() != 8 {
+        return 2;
+    }
+    if left.len() != 4 {
+        return 2;
+    }
+    if out.len() != 16 {
+        return 2;
+    }
     let answer = answer_of(mode, avail_top, avail_left, avail_corner);
     if answer != 0 {
-        return Pred4x4 {
-            answer,
-            block: [0u8; 16],
-        };
+        return answer;
     }
     let e = run_of(4, top, left, corner);
-    Pred4x4 {
-        answer,
-        block: draw4(mode, avail_top, avail_left, e),
-    }
+    draw4(mode, avail_top, avail_left, e, out);
+    0
 }
 
 // The 8x8 block of a mode, from the marks and the samples of above, left and corner, which are filtered first.
@@ -127,31 +159,29 @@ fn answer_of(mode: u8, avail_top: bool, avail_left: bool, avail_corner: bool) ->
 }
 
 // The 4x4 block of a mode, from the run.
-fn draw4(mode: u8, above: bool, left: bool, e: [u8; 81]) -> [u8; 16]
-    requires { ⌜ mode ≤ 8 ⌝ }
-    ensures { λ r. ⌜ ((p : Near) → Run 4 p e → r ≡ blockOf 4 (predNxN 4 mode above left p)) ⌝ }
+fn draw4(mode: u8, above: bool, left: bool, e: [u8; 81], out: &mut [u8])
+    requires { ⌜ (mode ≤ 8) × (length (now out) ≡ 16) ⌝ }
+    ensures { λ _. ⌜ ((p : Near) → Run 4 p e → now (out .exit) ≡ blockOf 4 (predNxN 4 mode above left p)) ⌝ }
 {
     if mode == 2 {
-        let v = dc_of(4, &e, above, left);
-        return [v; 16];
+        fill(dc_of(4, &e, above, left), 16, out);
+        return;
     }
     let t = with_means(4, mode, e);
-    fill4(mode, &t)
+    fill4(mode, &t, out);
 }
 
 // The same for a mode but DC, each sample picked from its place.
-fn fill4(mode: u8, t: &[u8; 81]) -> [u8; 16]
-    requires { ⌜ (mode ≤ 8) × (mode ≡ 2 → ⊥) ⌝ }
-    ensures { λ r. ⌜ ((p : Near) (a l : Bool) → Run 4 p (now (t .entry)) → (2 < mode → Means 4 (now (t .entry))) → r ≡ blockOf 4 (predNxN 4 mode a l p)) ⌝ }
+fn fill4(mode: u8, t: &[u8; 81], out: &mut [u8])
+    requires { ⌜ (mode ≤ 8) × (mode ≡ 2 → ⊥) × (length (now out) ≡ 16) ⌝ }
+    ensures { λ _. ⌜ ((p : Near) (a l : Bool) → Run 4 p (now (t .entry)) → (2 < mode → Means 4 (now (t .entry))) → now (out .exit) ≡ blockOf 4 (predNxN 4 mode a l p)) ⌝ }
 {
-    let mut out = [0u8; 16];
     for y in 0..4 {
         for x in 0..4 {
             let i = place_of(mode, 4, x, y);
             out[y * 4 + x] = t[i];
         }
     }
-    out
 }
 
 // Where the sample in column x and row y stands, in a mode but DC.

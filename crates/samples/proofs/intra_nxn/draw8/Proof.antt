@@ -1,5 +1,5 @@
 -- `samples::intra_nxn::draw8` meets its contract, mode by mode: vertical, horizontal, DC, and those that take means. Assumes nothing.
-use mathlib.Core.Path.{_≡_, refl, ap, _∙_}
+use mathlib.Core.Path.{_≡_, ap, _∙_}
 use Prim.Native.Nat.{ℕ, _+_, _-_}
 use native.Mathlib.Omega.{arith}
 use denote.Ref.{now}
@@ -18,7 +18,7 @@ returns c p run =
     let z = d .before .before .before .before .before .before in
     let h : z .args .mode ≡ 0 = omega arith in
     let e = now (z .args .e) in
-    rows-are (λ x y. getD (take (length e - 64) (drop 64 e)) x 0) (predNxN 8 (z .args .mode) (z .args .above) (z .args .left) p) (now (z .args .out)) (z .pre .1) (d .down .ensures)
+    rows-are 8 (λ x y. getD (take (length e - 64) (drop 64 e)) x 0) (predNxN 8 (z .args .mode) (z .args .above) (z .args .left) p) (now (z .args .out)) (z .pre .1) (d .down .ensures)
     (λ x y hx hy. rw h (getD-take (length e - 64) (drop 64 e) x 0 (omega (arith, run .size)) ∙ getD-drop 64 e x 0 ∙ ap (λ (k : ℕ). getD e k 0) (omega arith) ∙ run .above (x + 1) (omega arith)))
 
 returns-2 : tie.Need-returns-2
@@ -28,7 +28,7 @@ returns-2 c p run =
     let z = d .before .before .before .before .before in
     let e = now (z .args .e) in
     let h : z .args .mode ≡ 1 = omega arith in
-    rows-are (λ x y. getD e (62 - y) 0) (predNxN 8 (z .args .mode) (z .args .above) (z .args .left) p) (now (z .args .out)) (z .pre .1) (d .beside8 .ensures)
+    rows-are 8 (λ x y. getD e (62 - y) 0) (predNxN 8 (z .args .mode) (z .args .above) (z .args .left) p) (now (z .args .out)) (z .pre .1) (d .beside8 .ensures)
     (λ x y hx hy. rw h (ap (λ (k : ℕ). getD e k 0) (omega arith) ∙ run .left (y + 1) (omega arith)))
 
 returns-3 : tie.Need-returns-3
@@ -38,7 +38,7 @@ returns-3 c p run =
     let v = d .before .before in
     let z = v .before .before .before .before .before in
     let h : z .args .mode ≡ 2 = omega arith in
-    rows-are (λ x y. v .dc-of .result) (predNxN 8 (z .args .mode) (z .args .above) (z .args .left) p) (now (z .args .out)) (z .pre .1) (d .fill .ensures)
+    rows-are 8 (λ x y. v .dc-of .result) (predNxN 8 (z .args .mode) (z .args .above) (z .args .left) p) (now (z .args .out)) (z .pre .1) (d .fill .ensures)
     (λ x y hx hy. rw h (v .dc-of .ensures p run))
 
 returns-4 : tie.Need-returns-4

@@ -1,5 +1,5 @@
 -- `samples::intra_nxn::intra8x8_pred_into` meets its contract: the rules in their order, then the block, drawn from the filtered run. Assumes nothing.
-use mathlib.Core.Path.{_≡_, refl, sym, _∙_}
+use mathlib.Core.Path.{refl, sym, _∙_}
 use borrow.Author.Tests.{eq-eqb, ne-eqb}
 use Rattle.laws.proofs.Answers.{refused}
 use Rattle.samples.specs.Marks.{permittedNxN}

@@ -17,7 +17,7 @@ returns c p a l run =
     let z = t .before .before in
     let r = t .threes .result in
     let h : z .args .mode ≡ 3 = omega (arith, z .pre .0, d .before .before .before .before .if1 .taken) in
-    rows-are (λ x y. slid r 11 r 12 2 0 x y) (predNxN 8 (z .args .mode) a l p) (now (z .args .out)) (z .pre .2) (d .slide .ensures)
+    rows-are 8 (λ x y. slid r 11 r 12 2 0 x y) (predNxN 8 (z .args .mode) a l p) (now (z .args .out)) (z .pre .2) (d .slide .ensures)
     (λ x y hx hy. rw h (is-downLeft p (now (z .args .e)) r _ run (t .threes .ensures) refl x y hx hy))
 
 returns-2 : tie.Need-returns-2
@@ -29,7 +29,7 @@ returns-2 c p a l run =
     let z = t .before .before in
     let r = t .threes .result in
     let h : z .args .mode ≡ 4 = omega (arith, b .before .if1 .left, b .if2 .taken) in
-    rows-are (λ x y. slid r 9 r 8 0 2 x y) (predNxN 8 (z .args .mode) a l p) (now (z .args .out)) (z .pre .2) (d .slide2 .ensures)
+    rows-are 8 (λ x y. slid r 9 r 8 0 2 x y) (predNxN 8 (z .args .mode) a l p) (now (z .args .out)) (z .pre .2) (d .slide2 .ensures)
     (λ x y hx hy. rw h (is-downRight p (now (z .args .e)) r _ run (t .threes .ensures) refl x y hx hy))
 
 returns-3 : tie.Need-returns-3
@@ -43,7 +43,7 @@ returns-3 c p a l run =
     let t = w .before .before .before in
     let z = t .before .before in
     let h : z .args .mode ≡ 5 = omega (arith, w .before .if2 .left, b .if3 .taken) in
-    rows-are (λ x y. slid (s₁ .steep .result) 3 (s₂ .steep2 .result) 3 0 1 x y) (predNxN 8 (z .args .mode) a l p) (now (z .args .out)) (z .pre .2) (d .slide3 .ensures)
+    rows-are 8 (λ x y. slid (s₁ .steep .result) 3 (s₂ .steep2 .result) 3 0 1 x y) (predNxN 8 (z .args .mode) a l p) (now (z .args .out)) (z .pre .2) (d .slide3 .ensures)
     (λ x y hx hy. rw h (is-verticalRight p (now (z .args .e)) (t .threes .result) (w .twos .result) run (t .threes .ensures) (w .twos .ensures) x y hx hy
     (s₁ .steep .ensures) (s₂ .steep2 .ensures)))
 
@@ -58,7 +58,7 @@ returns-4 c p a l run =
     let z = t .before .before in
     let r = f .flat-down .result in
     let h : z .args .mode ≡ 6 = omega (arith, b .before .if3 .left, b .if4 .taken) in
-    rows-are (λ x y. slid r 14 r 12 0 4 x y) (predNxN 8 (z .args .mode) a l p) (now (z .args .out)) (z .pre .2) (d .slide4 .ensures)
+    rows-are 8 (λ x y. slid r 14 r 12 0 4 x y) (predNxN 8 (z .args .mode) a l p) (now (z .args .out)) (z .pre .2) (d .slide4 .ensures)
     (λ x y hx hy. rw h (is-horizontalDown p (now (z .args .e)) (t .threes .result) (w .twos .result) run (t .threes .ensures) (w .twos .ensures) x y hx hy (f .flat-down .ensures)))
 
 returns-5 : tie.Need-returns-5
@@ -70,7 +70,7 @@ returns-5 c p a l run =
     let t = w .before .before .before in
     let z = t .before .before in
     let h : z .args .mode ≡ 7 = omega (arith, b .before .if4 .left, b .if5 .taken) in
-    rows-are (λ x y. slid (w .twos .result) 10 (t .threes .result) 11 1 0 x y) (predNxN 8 (z .args .mode) a l p) (now (z .args .out)) (z .pre .2) (d .slide5 .ensures)
+    rows-are 8 (λ x y. slid (w .twos .result) 10 (t .threes .result) 11 1 0 x y) (predNxN 8 (z .args .mode) a l p) (now (z .args .out)) (z .pre .2) (d .slide5 .ensures)
     (λ x y hx hy. rw h (is-verticalLeft p (now (z .args .e)) (t .threes .result) (w .twos .result) run (t .threes .ensures) (w .twos .ensures) x y hx hy))
 
 returns-6 : tie.Need-returns-6
@@ -84,7 +84,7 @@ returns-6 c p a l run =
     let z = t .before .before in
     let r = f .flat-up .result in
     let h : z .args .mode ≡ 8 = omega (arith, z .pre .1, b .if5 .left) in
-    rows-are (λ x y. slid r 0 r 2 4 0 x y) (predNxN 8 (z .args .mode) a l p) (now (z .args .out)) (z .pre .2) (d .slide6 .ensures)
+    rows-are 8 (λ x y. slid r 0 r 2 4 0 x y) (predNxN 8 (z .args .mode) a l p) (now (z .args .out)) (z .pre .2) (d .slide6 .ensures)
     (λ x y hx hy. rw h (is-horizontalUp p (now (z .args .e)) (t .threes .result) (w .twos .result) run (t .threes .ensures) (w .twos .ensures) x y hx hy (f .flat-up .ensures) refl))
 
 pub slant8-spec : {M : Type 1} → statement M
