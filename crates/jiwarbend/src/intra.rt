@@ -25,29 +25,16 @@ pub extern "C" fn jiwarbend_intra4x4_pred(
     ensures { λ r. ⌜ r ≡ answer (2 unless now (top .entry) has 8 ∷ 2 unless now (left .entry) has 4 ∷ 2 unless now (out .entry) has 16 ∷ 6 unless leb mode 8 ∷ 7 unless permittedNxN «avail_top» «avail_left» «avail_corner» mode ∷ []) ⌝ }
     ensures { λ r. ⌜ now (out .exit) ≡ written r (now (out .entry)) (blockOf 4 (pred4x4L mode «avail_top» «avail_left» «avail_corner» (near (now (top .entry)) (now (left .entry)) corner))) ⌝ }
 {
-    if top.len() != 8 {
-        return 2;
-    }
-    if left.len() != 4 {
-        return 2;
-    }
-    if out.len() != 16 {
-        return 2;
-    }
-    let above = crate::lists::bytes8(top);
-    let beside = crate::lists::bytes4(left);
-    let r = samples::intra_nxn::intra4x4_pred(
+    samples::intra_nxn::intra4x4_pred_into(
         mode,
         avail_top,
         avail_left,
         avail_corner,
-        &above,
-        &beside,
+        top,
+        left,
         corner,
-    );
-    let block = r.block;
-    crate::lists::leave(out, r.answer, &block);
-    r.answer
+        out,
+    )
 }
 
 #[no_mangle]
@@ -64,29 +51,16 @@ pub extern "C" fn jiwarbend_intra8x8_pred(
     ensures { λ r. ⌜ r ≡ answer (2 unless now (top .entry) has 16 ∷ 2 unless now (left .entry) has 8 ∷ 2 unless now (out .entry) has 64 ∷ 6 unless leb mode 8 ∷ 7 unless permittedNxN «avail_top» «avail_left» «avail_corner» mode ∷ []) ⌝ }
     ensures { λ r. ⌜ now (out .exit) ≡ written r (now (out .entry)) (blockOf 8 (pred8x8L mode «avail_top» «avail_left» «avail_corner» (near (now (top .entry)) (now (left .entry)) corner))) ⌝ }
 {
-    if top.len() != 16 {
-        return 2;
-    }
-    if left.len() != 8 {
-        return 2;
-    }
-    if out.len() != 64 {
-        return 2;
-    }
-    let above = crate::lists::bytes16(top);
-    let beside = crate::lists::bytes8(left);
-    let r = samples::intra_nxn::intra8x8_pred(
+    samples::intra_nxn::intra8x8_pred_into(
         mode,
         avail_top,
         avail_left,
         avail_corner,
-        &above,
-        &beside,
+        top,
+        left,
         corner,
-    );
-    let block = r.block;
-    crate::lists::leave(out, r.answer, &block);
-    r.answer
+        out,
+    )
 }
 
 #[no_mangle]
@@ -103,29 +77,16 @@ pub extern "C" fn jiwarbend_luma16x16_pred(
     ensures { λ r. ⌜ r ≡ answer (2 unless now (top .entry) has 16 ∷ 2 unless now (left .entry) has 16 ∷ 2 unless now (out .entry) has 256 ∷ 6 unless leb mode 3 ∷ 7 unless permitted16x16 «avail_top» «avail_left» «avail_corner» mode ∷ []) ⌝ }
     ensures { λ r. ⌜ now (out .exit) ≡ written r (now (out .entry)) (blockOf 16 (predL mode «avail_top» «avail_left» (near (now (top .entry)) (now (left .entry)) corner))) ⌝ }
 {
-    if top.len() != 16 {
-        return 2;
-    }
-    if left.len() != 16 {
-        return 2;
-    }
-    if out.len() != 256 {
-        return 2;
-    }
-    let above = crate::lists::bytes16(top);
-    let beside = crate::lists::bytes16(left);
-    let r = samples::intra_16x16::luma16x16_pred(
+    samples::intra_16x16::luma16x16_pred_into(
         mode,
         avail_top,
         avail_left,
         avail_corner,
-        &above,
-        &beside,
+        top,
+        left,
         corner,
-    );
-    let block = r.block;
-    crate::lists::leave(out, r.answer, &block);
-    r.answer
+        out,
+    )
 }
 
 #[no_mangle]
@@ -142,29 +103,16 @@ pub extern "C" fn jiwarbend_chroma8x8_pred(
     ensures { λ r. ⌜ r ≡ answer (2 unless now (top .entry) has 8 ∷ 2 unless now (left .entry) has 8 ∷ 2 unless now (out .entry) has 64 ∷ 6 unless leb mode 3 ∷ 7 unless permittedChroma «avail_top» «avail_left» «avail_corner» mode ∷ []) ⌝ }
     ensures { λ r. ⌜ now (out .exit) ≡ written r (now (out .entry)) (blockOf 8 (predC mode «avail_top» «avail_left» (near (now (top .entry)) (now (left .entry)) corner))) ⌝ }
 {
-    if top.len() != 8 {
-        return 2;
-    }
-    if left.len() != 8 {
-        return 2;
-    }
-    if out.len() != 64 {
-        return 2;
-    }
-    let above = crate::lists::bytes8(top);
-    let beside = crate::lists::bytes8(left);
-    let r = samples::intra_chroma::chroma8x8_pred(
+    samples::intra_chroma::chroma8x8_pred_into(
         mode,
         avail_top,
         avail_left,
         avail_corner,
-        &above,
-        &beside,
+        top,
+        left,
         corner,
-    );
-    let block = r.block;
-    crate::lists::leave(out, r.answer, &block);
-    r.answer
+        out,
+    )
 }
 
 #[no_mangle]

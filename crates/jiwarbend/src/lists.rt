@@ -3,15 +3,6 @@ ghost use mathlib.Core.Path.{_≡_};
 ghost use lib.ListN.{length};
 ghost use Rattle.laws.specs.Answer.{written};
 
-pub(crate) fn bytes4(s: &[u8]) -> [u8; 4]
-    requires { ⌜ length (now s) ≡ 4 ⌝ }
-    ensures { λ r. ⌜ r ≡ now (s .entry) ⌝ }
-{
-    let mut a = [0u8; 4];
-    put(&mut a, s);
-    a
-}
-
 pub(crate) fn bytes8(s: &[u8]) -> [u8; 8]
     requires { ⌜ length (now s) ≡ 8 ⌝ }
     ensures { λ r. ⌜ r ≡ now (s .entry) ⌝ }
