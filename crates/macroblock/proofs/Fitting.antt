@@ -1,5 +1,5 @@
 -- A block that lies in its plane: its rows, the row above it and the column before it do. Assumes nothing.
-use mathlib.Core.Path.{_≡_, refl}
+use mathlib.Core.Path.{_≡_}
 use mathlib.Core.Bool.{Bool, true, false, cond}
 use Prim.Native.Nat.{ℕ, suc, _+_, _*_, _-_, _<_, _≤_, min}
 use native.Mathlib.Nat.{mul-le-mul-right, suc-mul}
@@ -34,7 +34,13 @@ in-above q s Y Z n F h =
     let g = in-row q s Y Z n 0 F (F .some) in
     record { some = b; line = omega (arith, g .line); product = omega (arith, F .within); whole = λ m l. omega (arith, F .within) }
 
--- where the samples above go
-pub reach-in : (q s Z t : ℕ) (right : Bool) → 0 < q → Z * q + q ≤ s → (right ≡ true → Z * q + q + q ≤ s) → Z * q + min t (cond right (2 * q - 1) (q - 1)) < s
-reach-in q s Z t true hq h f = omega (arith, f refl)
-reach-in q s Z t false hq h f = omega arith
+-- where the samples above stand that lie over the block, those to the right of these, and those that repeat the last
+pub reach-over : (l z q t : ℕ) (right : Bool) → t < q → l + z + t ≡ l + (z + min t (cond right (2 * q - 1) (q - 1)))
+reach-over l z q t true h = omega arith
+reach-over l z q t false h = omega arith
+
+pub reach-right : (l z q t : ℕ) (right : Bool) → right ≡ true → t < 2 * q → l + z + t ≡ l + (z + min t (cond right (2 * q - 1) (q - 1)))
+reach-right l z q t right e h = rw e (let f : l + z + t ≡ l + (z + min t (2 * q - 1)) = omega arith in f)
+
+pub reach-last : (l z q t : ℕ) (right : Bool) → right ≡ false → 0 < q → q ≤ t → l + z + q - 1 ≡ l + (z + min t (cond right (2 * q - 1) (q - 1)))
+reach-last l z q t right e some h = rw e (let f : l + z + q - 1 ≡ l + (z + min t (q - 1)) = omega arith in f)

@@ -12,4 +12,5 @@ pub mod Promised
 pub mod Rooms
 pub mod Scan
 pub mod Sides
+pub mod Stretches
 pub mod Sums

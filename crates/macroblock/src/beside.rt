@@ -1,8 +1,10 @@
 // The samples beside a block, read from the plane as it stands. An absent side is not read, and leaves zeros.
 ghost use mathlib.Core.Path.{_≡_};
-ghost use mathlib.Core.Bool.{true, cond};
-ghost use Prim.Native.Nat.{_+_, _*_, _-_, _≤_, _<_, min};
-ghost use lib.ListN.{length, replicate};
+ghost use mathlib.Core.Bool.{true, _&&_};
+ghost use Prim.Native.Nat.{_+_, _*_, _≤_, _<_};
+ghost use lib.Dec.{ltb, leb};
+ghost use lib.ListN.{length, getD, replicate};
+ghost use Rattle.laws.specs.Patch.{patch};
 ghost use Rattle.macroblock.specs.Square.{aboveOf, leftOf, cornerOf};
 ghost use Rattle.macroblock.specs.inner.Blocks.{Fits};
 
@@ -18,33 +20,39 @@ pub(crate) fn above_of(
     out: &mut [u8],
 )
     requires { ⌜ Fits q stride row column (length (now plane)) ⌝ }
-    requires { ⌜ (q ≤ 16) × (now out ≡ replicate (length (now out)) 0) × (there ≡ true → 0 < row) × (right ≡ true → (0 < row) × (column * q + q + q ≤ stride)) ⌝ }
+    requires { ⌜ (q ≤ length (now out)) × (length (now out) ≤ 2 * q) × (now out ≡ replicate (length (now out)) 0) × (there ≡ true → 0 < row) × (right ≡ true → (0 < row) × (column * q + q + q ≤ stride)) ⌝ }
     ensures { λ _. ⌜ now (out .exit) ≡ aboveOf q stride row column (now (plane .entry)) (length (now (out .entry))) there right ⌝ }
 {
     if there {
-        let reach = reach_of(q, right);
-        let line = (row * q - 1) * stride;
-        let mut t = 0;
-        while t < out.len() {
-            let i = line + (column * q + least(t, reach));
-            out[t] = plane[i];
-            t += 1;
+        let line = (row * q - 1) * stride + column * q;
+        copy(&plane[line..], 0, q, out);
+        let n = out.len();
+        if right {
+            copy(&plane[line..], q, n, out);
+        } else {
+            fill(plane[line + q - 1], q, n, out);
         }
     }
 }
 
-// How far the samples above go: to the end of the block, or of the one to its right.
-fn reach_of(q: usize, right: bool) -> usize
-    requires { ⌜ (0 < q) × (q ≤ 16) ⌝ }
-    ensures { λ r. ⌜ r ≡ cond right (2 * q - 1) (q - 1) ⌝ }
+// The places from `first` to `end` of a row, copied to the same places of `out`.
+fn copy(row: &[u8], first: usize, end: usize, out: &mut [u8])
+    requires { ⌜ (first ≤ end) × (end ≤ length (now out)) × (end ≤ length (now row)) ⌝ }
+    ensures { λ _. ⌜ now (out .exit) ≡ patch (λ i. leb first i && ltb i end) (λ i. getD (now (row .entry)) i 0) (now (out .entry)) ⌝ }
 {
-    if right { 2 * q - 1 } else { q - 1 }
+    for t in first..end {
+        out[t] = row[t];
+    }
 }
 
-fn least(a: usize, b: usize) -> usize
-    ensures { λ r. ⌜ r ≡ min a b ⌝ }
+// Those places of `out`, filled with `v`.
+fn fill(v: u8, first: usize, end: usize, out: &mut [u8])
+    requires { ⌜ (first ≤ end) × (end ≤ length (now out)) ⌝ }
+    ensures { λ _. ⌜ now (out .exit) ≡ patch (λ i. leb first i && ltb i end) (λ _. «v») (now (out .entry)) ⌝ }
 {
-    if a < b { a } else { b }
+    for t in first..end {
+        out[t] = v;
+    }
 }
 
 // The samples left of a block; `out` comes filled with zeros.
