@@ -6,7 +6,6 @@ use mathlib.Core.List.{[], _∷_}
 use Prim.Native.Nat.{ℕ, _*_, _-_, _<_}
 use native.Mathlib.Omega.{arith}
 use lib.Dec.{T, ltb, eqb, eqb→eq, ltb→lt}
-use lib.ListN.{getD}
 use Rattle.laws.specs.Table.{allBelow, table}
 use Rattle.laws.proofs.Tests.{below, both-left, both-right}
 use Rattle.samples.specs.Nnz.{blkIdx}
@@ -50,15 +49,6 @@ scan-2 = scan 2 (omega arith) tt tt
 pub scan-4 : Scan 4
 unfolding allBelow scanX scanY
 scan-4 = scan 4 (omega arith) tt tt
-
--- the code's two tables are this scan
-pub column-table : (k : ℕ) → k < 16 → getD (0 ∷ 1 ∷ 0 ∷ 1 ∷ 2 ∷ 3 ∷ 2 ∷ 3 ∷ 0 ∷ 1 ∷ 0 ∷ 1 ∷ 2 ∷ 3 ∷ 2 ∷ 3 ∷ []) k 0 ≡ scanX k
-unfolding allBelow scanX
-column-table k h = eqb→eq _ (scanX k) (below 16 (λ k. eqb (getD (0 ∷ 1 ∷ 0 ∷ 1 ∷ 2 ∷ 3 ∷ 2 ∷ 3 ∷ 0 ∷ 1 ∷ 0 ∷ 1 ∷ 2 ∷ 3 ∷ 2 ∷ 3 ∷ []) k 0) (scanX k)) tt k h)
-
-pub row-table : (k : ℕ) → k < 16 → getD (0 ∷ 0 ∷ 1 ∷ 1 ∷ 0 ∷ 0 ∷ 1 ∷ 1 ∷ 2 ∷ 2 ∷ 3 ∷ 3 ∷ 2 ∷ 2 ∷ 3 ∷ 3 ∷ []) k 0 ≡ scanY k
-unfolding allBelow scanY
-row-table k h = eqb→eq _ (scanY k) (below 16 (λ k. eqb (getD (0 ∷ 0 ∷ 1 ∷ 1 ∷ 0 ∷ 0 ∷ 1 ∷ 1 ∷ 2 ∷ 2 ∷ 3 ∷ 3 ∷ 2 ∷ 2 ∷ 3 ∷ 3 ∷ []) k 0) (scanY k)) tt k h)
 
 -- the block to the left, the one above and the one above and to the left come first
 pub left-first : (u v k : ℕ) → 0 < u → blkIdx u v ≡ k → blkIdx (u - 1) v < k

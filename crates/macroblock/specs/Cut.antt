@@ -1,8 +1,11 @@
 -- How a macroblock's square in one plane is cut into blocks, in which order these come, and who holds the samples beside each: clauses 6.4.3, 6.4.5,
 -- 6.4.7, 6.4.9, 6.4.11 and 6.4.12. One account of 4x4, 8x8, 16x16 and chroma blocks.
+use mathlib.Core.Path.{_≡_, refl}
 use mathlib.Core.Bool.{Bool, true, false, cond, _&&_}
+use mathlib.Core.List.{List, [], _∷_}
 use Prim.Native.Nat.{ℕ, _+_, _*_, _-_, _/_, _%_}
 use lib.Dec.{eqb, ltb, leb}
+use Rattle.laws.specs.Table.{table}
 use Rattle.samples.specs.Nnz.{blkIdx}
 
 -- 6.4.9: the neighbour macroblocks A, left, B, above, C, above and to the right, and D, above and to the left
@@ -42,6 +45,17 @@ scanX k = k / 4 % 2 * 2 + k % 4 % 2
 
 unfoldable pub scanY : ℕ → ℕ
 scanY k = k / 4 / 2 * 2 + k % 4 / 2
+
+-- Figure 6-10: the column and the row of each of the sixteen blocks, read off
+abbrev pub scanColumns : List ℕ
+scanColumns = 0 ∷ 1 ∷ 0 ∷ 1 ∷ 2 ∷ 3 ∷ 2 ∷ 3 ∷ 0 ∷ 1 ∷ 0 ∷ 1 ∷ 2 ∷ 3 ∷ 2 ∷ 3 ∷ []
+
+abbrev pub scanRows : List ℕ
+scanRows = 0 ∷ 0 ∷ 1 ∷ 1 ∷ 0 ∷ 0 ∷ 1 ∷ 1 ∷ 2 ∷ 2 ∷ 3 ∷ 3 ∷ 2 ∷ 2 ∷ 3 ∷ 3 ∷ []
+
+pub scan-figure : (scanColumns ≡ table 16 scanX) × (scanRows ≡ table 16 scanY)
+unfolding table scanX scanY
+scan-figure = (refl, refl)
 
 -- who holds the samples on a side of a block: an earlier block of this macroblock, a neighbour macroblock, or nobody
 pub data Holder : Type 0 where

@@ -8,11 +8,6 @@ ghost use Rattle.macroblock.specs.Cut.{marksOf, scanX, scanY};
 ghost use Rattle.macroblock.specs.Kinds.{cutFor};
 ghost use Rattle.macroblock.specs.inner.Blocks.{Scan, Marked};
 
-// LUMA_4X4_SCAN_XY as two tables: block k stands in this column and row of blocks.
-const LUMA_4X4_SCAN_X: [usize; 16] = [0, 1, 0, 1, 2, 3, 2, 3, 0, 1, 0, 1, 2, 3, 2, 3];
-
-const LUMA_4X4_SCAN_Y: [usize; 16] = [0, 0, 1, 1, 0, 0, 1, 1, 2, 2, 3, 3, 2, 2, 3, 3];
-
 // How many blocks of a kind's luma are in a row.
 pub(crate) fn across(kind: u8) -> usize
     ensures { λ r. ⌜ r ≡ cutFor kind .across ⌝ }
@@ -26,18 +21,19 @@ pub(crate) fn across(kind: u8) -> usize
     }
 }
 
+// The column and the row of blocks that block k stands in: computed, since a table is built anew at each use.
 pub(crate) fn scan_x(k: usize) -> usize
     requires { ⌜ k < 16 ⌝ }
     ensures { λ r. ⌜ r ≡ scanX k ⌝ }
 {
-    LUMA_4X4_SCAN_X[k]
+    k % 2 + k / 4 % 2 * 2
 }
 
 pub(crate) fn scan_y(k: usize) -> usize
     requires { ⌜ k < 16 ⌝ }
     ensures { λ r. ⌜ r ≡ scanY k ⌝ }
 {
-    LUMA_4X4_SCAN_Y[k]
+    k / 2 % 2 + k / 8 * 2
 }
 
 // The block in column `x` and row `y`.

@@ -1,11 +1,13 @@
--- `macroblock::cut::scan_x` meets its contract: its table's rule is computed at each entry. Assumes nothing.
-use Rattle.macroblock.proofs.Scan.{column-table}
+-- `macroblock::cut::scan_x` meets its contract: the definition's digits, in another order. Assumes nothing.
+use native.Mathlib.Omega.{arith}
+use Rattle.macroblock.specs.Cut.{scanX}
 use borrow.Author.Needs.{needs}
 use Rattle.macroblock.proofs.cut.scan_x.Statement.{statement}
 use Rattle.macroblock.proofs.cut.scan_x.Tie as tie
 
 returns : tie.Need-returns
-returns c = column-table (c .args .k) (c .pre)
+unfolding scanX
+returns c = omega arith
 
 pub scan-x-spec : {M : Type 1} → statement M
 scan-x-spec =

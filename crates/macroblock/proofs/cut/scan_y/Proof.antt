@@ -1,11 +1,13 @@
--- `macroblock::cut::scan_y` meets its contract: its table's rule is computed at each entry. Assumes nothing.
-use Rattle.macroblock.proofs.Scan.{row-table}
+-- `macroblock::cut::scan_y` meets its contract: the definition's digits, in another order. Assumes nothing.
+use native.Mathlib.Omega.{arith}
+use Rattle.macroblock.specs.Cut.{scanY}
 use borrow.Author.Needs.{needs}
 use Rattle.macroblock.proofs.cut.scan_y.Statement.{statement}
 use Rattle.macroblock.proofs.cut.scan_y.Tie as tie
 
 returns : tie.Need-returns
-returns c = row-table (c .args .k) (c .pre)
+unfolding scanY
+returns c = omega arith
 
 pub scan-y-spec : {M : Type 1} → statement M
 scan-y-spec =
