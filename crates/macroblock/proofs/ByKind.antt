@@ -5,7 +5,7 @@ use Prim.Native.Nat.{ℕ, zero, suc, _*_, _<_, _≤_}
 use native.Mathlib.Omega.{arith}
 use Rattle.macroblock.specs.Kinds.{cutFor}
 use Rattle.macroblock.specs.Rules.{used}
-use Rattle.macroblock.specs.inner.Blocks.{Scan}
+use Rattle.macroblock.specs.inner.Blocks.{Scan, firstFor}
 use Rattle.macroblock.proofs.Scan.{scan-1, scan-2, scan-4}
 
 pub other-kind : (P : ℕ → Type 0) → ((j : ℕ) → P (suc (suc j))) → (kind : ℕ) → kind ≢ 0 → kind ≢ 1 → P kind
@@ -38,3 +38,8 @@ pub used-few : (kind : ℕ) → used kind ≤ 16
 used-few zero = omega arith
 used-few (suc zero) = omega arith
 used-few (suc (suc _)) = omega arith
+
+pub first-few : (kind : ℕ) → firstFor kind ≤ 16
+first-few zero = omega arith
+first-few (suc zero) = omega arith
+first-few (suc (suc _)) = omega arith

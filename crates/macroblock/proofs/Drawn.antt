@@ -1,5 +1,5 @@
 -- A block that the code predicts from the marks it found, and puts, is the definition's part of the square. For every cut and rule. Assumes nothing.
-use mathlib.Core.Path.{_≡_, refl, sym, ap, ap₂, _∙_}
+use mathlib.Core.Path.{_≡_, refl, sym, ap₂, _∙_}
 use mathlib.Core.Bool.{Bool}
 use mathlib.Core.List.{List}
 use Prim.Native.Nat.{ℕ, _+_, _*_, _-_, _/_, _%_, _<_, _≤_}
@@ -19,13 +19,14 @@ use Rattle.macroblock.proofs.Fitting.{in-row}
 use Rattle.macroblock.proofs.Pieces.{put-same}
 use Rattle.macroblock.proofs.Sides.{fits-block, beside-block}
 
--- a prediction that was drawn into a block, read back sample by sample
-pub drawn : (q s Y Z : ℕ) (f : ℕ → ℕ → ℕ) (r : ℕ → ℕ → ℤ) (at : ℕ → ℕ → ℕ) (pred plane : List ℕ) → 0 < q → pred ≡ blockOf q f → ((x y : ℕ) → at x y ≡ y * q + x)
-    → putBlock q s Y Z (λ x y. Clip1 (pos (getD pred (at x y) 0) +ℤ r x y)) plane ≡ putBlock q s Y Z (λ x y. Clip1 (pos (f x y) +ℤ r x y)) plane
-drawn q s Y Z f r at pred plane some e g =
+-- a prediction that was drawn into a block, read back sample by sample, and residuals that are the definition's there
+pub drawn : (q s Y Z : ℕ) (f : ℕ → ℕ → ℕ) (r r′ : ℕ → ℕ → ℤ) (at : ℕ → ℕ → ℕ) (pred plane : List ℕ) → 0 < q → pred ≡ blockOf q f → ((x y : ℕ) → at x y ≡ y * q + x)
+    → ((x y : ℕ) → x < q → y < q → r x y ≡ r′ x y)
+    → putBlock q s Y Z (λ x y. Clip1 (pos (getD pred (at x y) 0) +ℤ r x y)) plane ≡ putBlock q s Y Z (λ x y. Clip1 (pos (f x y) +ℤ r′ x y)) plane
+drawn q s Y Z f r r′ at pred plane some e g same =
     put-same q s Y Z _ _ plane some
-    (λ x y hx hy. ap (λ n. Clip1 (pos n +ℤ r x y))
-    (ap₂ (λ l n. getD l n 0) e (g x y) ∙ getD-table 0 (q * q) (λ k. f (k % q) (k / q)) (y * q + x) (digits-lt hy hx) ∙ ap₂ f (digits-mod y hx) (digits-div y hx)))
+    (λ x y hx hy. ap₂ (λ n z. Clip1 (pos n +ℤ z))
+    (ap₂ (λ l n. getD l n 0) e (g x y) ∙ getD-table 0 (q * q) (λ k. f (k % q) (k / q)) (y * q + x) (digits-lt hy hx) ∙ ap₂ f (digits-mod y hx) (digits-div y hx)) (same x y hx hy))
 
 module _ {m k : ℕ} {marks : Side → Bool} {above left corner right : Bool} (M : Marked m marks k above left corner right) where
   -- the mode is refused by the code's marks no more than by the definition's

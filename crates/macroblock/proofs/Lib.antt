@@ -14,3 +14,4 @@ pub mod Scan
 pub mod Sides
 pub mod Stretches
 pub mod Sums
+pub mod Transforms

@@ -7,7 +7,8 @@ use native.Mathlib.Decide.{decLt}
 use native.Mathlib.Omega.{arith}
 use borrow.Author.Tests.{lt-ltb, le-ltb, le-leb, lt-leb}
 use lib.Dec.{ltb, leb, lt→ltb, leb→le, le→leb}
-use lib.ListN.{length, getD, set}
+use lib.ListN.{length, getD, set, take, drop}
+use lib.Seq.{getD-take, getD-drop}
 use Rattle.laws.specs.Patch.{patch}
 use Rattle.laws.specs.Table.{table}
 use Rattle.laws.proofs.Patches.{length-patch, patch-none, patch-set, patch-other, patch-here}
@@ -53,3 +54,7 @@ stretches-are q f g h l l₁ l₂ e₁ e₂ first rest =
         let k : q ≤ i = omega arith in
         let b₁ : i < length l₁ = omega (arith, long) in
         patch-here (λ j. leb q j && ltb j (length l₁)) g l₁ i b₁ (both-of (leb q i) (ltb i (length l₁)) (le→leb q i k) (lt→ltb i (length l₁) b₁)) ∙ rest i k b
+
+-- ---- what a part of a list holds
+pub part-at : {A : Type 0} (d : A) (l : List A) (a n i : ℕ) → i < n → getD (take n (drop a l)) i d ≡ getD l (a + i) d
+part-at d l a n i h = getD-take n (drop a l) i d h ∙ getD-drop a l i d

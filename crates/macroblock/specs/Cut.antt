@@ -46,7 +46,7 @@ scanX k = k / 4 % 2 * 2 + k % 4 % 2
 unfoldable pub scanY : ℕ → ℕ
 scanY k = k / 4 / 2 * 2 + k % 4 / 2
 
--- Figure 6-10: the column and the row of each of the sixteen blocks, read off
+-- 6.4.3, Figure 6-10: the column and the row of each of the sixteen blocks, as the figure shows them (the Rust's LUMA_4X4_SCAN_XY as two lists)
 abbrev pub scanColumns : List ℕ
 scanColumns = 0 ∷ 1 ∷ 0 ∷ 1 ∷ 2 ∷ 3 ∷ 2 ∷ 3 ∷ 0 ∷ 1 ∷ 0 ∷ 1 ∷ 2 ∷ 3 ∷ 2 ∷ 3 ∷ []
 

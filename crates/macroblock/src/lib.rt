@@ -7,6 +7,7 @@ ghost use Rattle.macroblock.specs.Kinds.{lumaSquare, cbSquare, crSquare}
 ghost use Rattle.macroblock.specs.Rules.{rooms, rebuildAnswer};
 use planes::chroma_square;
 use planes::luma_square;
+use residuals::residuals_of;
 use rules::has_rooms;
 use rules::record_answer;
 
@@ -14,8 +15,9 @@ mod beside; // the samples beside a block
 mod cut; // 6.4: where blocks stand and which of their sides are there
 mod planes; // the square of each plane, block by block
 mod predict; // 8.3: predictions
-mod put; // 8.5.14: sums in pieces of 4x4
-mod rules; // refusals 2, 6, 7 and 8
+mod put; // 8.5.14: sums
+mod residuals; // 8.5.1, 8.5.2 and 8.5.4: residuals, and refusal 8
+mod rules; // refusals 2, 6 and 7
 
 // A macroblock: its kind, 0 for 4x4, 1 for 8x8 and 2 for 16x16, its luma modes, its chroma mode, and 256 numbers for luma, 64 for Cb and 64 for Cr.
 pub struct Record {
@@ -47,7 +49,7 @@ pub fn rebuild(
     ensures { λ r. ⌜ now (cr .exit) ≡ written r (now (cr .entry)) (crSquare x y (marksOf a b c d) «record» «cr_stride» (now (cr .entry))) ⌝ }
 {
     let modes = record.modes;
-    let numbers = record.numbers;
+    let mut residuals = record.numbers;
     let x = x as usize;
     let y = y as usize;
     if !has_rooms(
@@ -66,16 +68,11 @@ pub fn rebuild(
     ) {
         return 2;
     }
-    let answer = record_answer(
-        record.kind,
-        &modes,
-        record.chroma_mode,
-        &numbers,
-        a,
-        b,
-        c,
-        d,
-    );
+    let answer = record_answer(record.kind, &modes, record.chroma_mode, a, b, c, d);
+    if answer != 0 {
+        return answer;
+    }
+    let answer = residuals_of(record.kind, &mut residuals);
     if answer != 0 {
         return answer;
     }
@@ -90,7 +87,7 @@ pub fn rebuild(
         d,
         record.kind,
         &modes,
-        &numbers,
+        &residuals,
     );
     chroma_square(
         cb,
@@ -102,7 +99,7 @@ pub fn rebuild(
         c,
         d,
         record.chroma_mode,
-        &numbers,
+        &residuals,
         16,
     );
     chroma_square(
@@ -115,7 +112,7 @@ pub fn rebuild(
         c,
         d,
         record.chroma_mode,
-        &numbers,
+        &residuals,
         20,
     );
     0

@@ -1,15 +1,15 @@
 // A macroblock's square in each of its planes, block by block.
 ghost use mathlib.Core.Path.{_≡_};
-ghost use mathlib.Core.Bool.{true};
+ghost use mathlib.Core.List.{List};
 ghost use Prim.Native.Nat.{ℕ, _+_, _≤_, _<_};
+ghost use lib.IntN.{ℤ};
 ghost use lib.ListN.{length};
 ghost use Rattle.samples.specs.Marks.{permittedChroma, modeAnswer};
-ghost use Rattle.samples.specs.Numbers.{allInRange};
 ghost use Rattle.macroblock.specs.Cut.{marksOf, four, eight, whole};
 ghost use Rattle.macroblock.specs.Kinds.{cutFor, lumaRule, chromaRule};
 ghost use Rattle.macroblock.specs.Rules.{used};
 ghost use Rattle.macroblock.specs.Square.{part, square};
-ghost use Rattle.macroblock.specs.inner.Blocks.{Fits, Beside, modeFine};
+ghost use Rattle.macroblock.specs.inner.Blocks.{Fits, Beside, modeFine, Transformed, firstFor};
 use super::cut::Marks;
 use super::cut::marks_of;
 use super::cut::scan_x;
@@ -34,18 +34,19 @@ fn block_4x4(
     c: bool,
     d: bool,
     modes: &[u8; 16],
-    numbers: &[i32; 384],
+    residuals: &[i32],
     k: usize,
 )
     requires { ⌜ Fits 16 stride y x (length (now plane)) × Beside 16 stride y x b a d c × (k < 16) ⌝ }
-    requires { ⌜ (modeFine 0 (now modes) (marksOf a b c d) k ≡ 0) × (allInRange (now numbers) ≡ true) ⌝ }
-    ensures { λ _. ⌜ now (plane .exit) ≡ part four (lumaRule 0 (now (modes .entry)) (now (numbers .entry))) stride x y (marksOf a b c d) k (now (plane .entry)) ⌝ }
+    requires { ⌜ (modeFine 0 (now modes) (marksOf a b c d) k ≡ 0) × (length (now residuals) ≡ 384) ⌝ }
+    ensures { λ _. ⌜ ((numbers : List ℤ) → Transformed 0 numbers (now (residuals .entry))
+        → now (plane .exit) ≡ part four (lumaRule 0 (now (modes .entry)) numbers) stride x y (marksOf a b c d) k (now (plane .entry))) ⌝ }
 {
     let row = y * 4 + scan_y(k);
     let column = x * 4 + scan_x(k);
     let m = marks_of(k, 4, a, b, c, d);
     let pred = predict_4x4(plane, stride, row, column, m, modes[k]);
-    put_4x4(plane, stride, row, column, &pred, 0, 4, numbers, k);
+    put_4x4(plane, stride, row, column, &pred, 0, 4, residuals, k);
 }
 
 // Luma block k of kind 1.
@@ -59,18 +60,19 @@ fn block_8x8(
     c: bool,
     d: bool,
     modes: &[u8; 16],
-    numbers: &[i32; 384],
+    residuals: &[i32],
     k: usize,
 )
     requires { ⌜ Fits 16 stride y x (length (now plane)) × Beside 16 stride y x b a d c × (k < 4) ⌝ }
-    requires { ⌜ (modeFine 1 (now modes) (marksOf a b c d) k ≡ 0) × (allInRange (now numbers) ≡ true) ⌝ }
-    ensures { λ _. ⌜ now (plane .exit) ≡ part eight (lumaRule 1 (now (modes .entry)) (now (numbers .entry))) stride x y (marksOf a b c d) k (now (plane .entry)) ⌝ }
+    requires { ⌜ (modeFine 1 (now modes) (marksOf a b c d) k ≡ 0) × (length (now residuals) ≡ 384) ⌝ }
+    ensures { λ _. ⌜ ((numbers : List ℤ) → Transformed 16 numbers (now (residuals .entry))
+        → now (plane .exit) ≡ part eight (lumaRule 1 (now (modes .entry)) numbers) stride x y (marksOf a b c d) k (now (plane .entry))) ⌝ }
 {
     let row = y * 2 + scan_y(k);
     let column = x * 2 + scan_x(k);
     let m = marks_of(k, 2, a, b, c, d);
     let pred = predict_8x8(plane, stride, row, column, m, modes[k]);
-    put_8x8(plane, stride, row, column, &pred, numbers, k);
+    put_8x8(plane, stride, row, column, &pred, residuals, k);
 }
 
 // The luma block of kind 2.
@@ -84,11 +86,12 @@ fn block_16x16(
     c: bool,
     d: bool,
     modes: &[u8; 16],
-    numbers: &[i32; 384],
+    residuals: &[i32],
 )
     requires { ⌜ Fits 16 stride y x (length (now plane)) × Beside 16 stride y x b a d c ⌝ }
-    requires { ⌜ (modeFine 2 (now modes) (marksOf a b c d) 0 ≡ 0) × (allInRange (now numbers) ≡ true) ⌝ }
-    ensures { λ _. ⌜ now (plane .exit) ≡ part (whole 16) (lumaRule 2 (now (modes .entry)) (now (numbers .entry))) stride x y (marksOf a b c d) 0 (now (plane .entry)) ⌝ }
+    requires { ⌜ (modeFine 2 (now modes) (marksOf a b c d) 0 ≡ 0) × (length (now residuals) ≡ 384) ⌝ }
+    ensures { λ _. ⌜ ((numbers : List ℤ) → Transformed 0 numbers (now (residuals .entry))
+        → now (plane .exit) ≡ part (whole 16) (lumaRule 2 (now (modes .entry)) numbers) stride x y (marksOf a b c d) 0 (now (plane .entry))) ⌝ }
 {
     let m = Marks {
         above: b,
@@ -97,7 +100,7 @@ fn block_16x16(
         right: c,
     };
     let pred = predict_16x16(plane, stride, y, x, m, modes[0]);
-    put_pieces(plane, stride, 4, y, x, &pred, numbers, 0);
+    put_pieces(plane, stride, 4, y, x, &pred, residuals, 0);
 }
 
 // Luma block k of any kind.
@@ -112,19 +115,20 @@ fn luma_block(
     d: bool,
     kind: u8,
     modes: &[u8; 16],
-    numbers: &[i32; 384],
+    residuals: &[i32],
     k: usize,
 )
     requires { ⌜ Fits 16 stride y x (length (now plane)) × Beside 16 stride y x b a d c × (k < used kind) ⌝ }
-    requires { ⌜ (modeFine kind (now modes) (marksOf a b c d) k ≡ 0) × (allInRange (now numbers) ≡ true) ⌝ }
-    ensures { λ _. ⌜ now (plane .exit) ≡ part (cutFor kind) (lumaRule kind (now (modes .entry)) (now (numbers .entry))) stride x y (marksOf a b c d) k (now (plane .entry)) ⌝ }
+    requires { ⌜ (modeFine kind (now modes) (marksOf a b c d) k ≡ 0) × (length (now residuals) ≡ 384) ⌝ }
+    ensures { λ _. ⌜ ((numbers : List ℤ) → Transformed (firstFor kind) numbers (now (residuals .entry))
+        → now (plane .exit) ≡ part (cutFor kind) (lumaRule kind (now (modes .entry)) numbers) stride x y (marksOf a b c d) k (now (plane .entry))) ⌝ }
 {
     if kind == 0 {
-        block_4x4(plane, stride, x, y, a, b, c, d, modes, numbers, k);
+        block_4x4(plane, stride, x, y, a, b, c, d, modes, residuals, k);
     } else if kind == 1 {
-        block_8x8(plane, stride, x, y, a, b, c, d, modes, numbers, k);
+        block_8x8(plane, stride, x, y, a, b, c, d, modes, residuals, k);
     } else {
-        block_16x16(plane, stride, x, y, a, b, c, d, modes, numbers);
+        block_16x16(plane, stride, x, y, a, b, c, d, modes, residuals);
     }
 }
 
@@ -140,21 +144,22 @@ pub(crate) fn luma_square(
     d: bool,
     kind: u8,
     modes: &[u8; 16],
-    numbers: &[i32; 384],
+    residuals: &[i32],
 )
     requires { ⌜ Fits 16 stride y x (length (now plane)) × Beside 16 stride y x b a d c ⌝ }
-    requires { ⌜ ((k : ℕ) → k < used kind → modeFine kind (now modes) (marksOf a b c d) k ≡ 0) × (allInRange (now numbers) ≡ true) ⌝ }
-    ensures { λ _. ⌜ now (plane .exit) ≡ square (cutFor kind) (lumaRule kind (now (modes .entry)) (now (numbers .entry))) stride x y (marksOf a b c d) (now (plane .entry)) ⌝ }
+    requires { ⌜ ((k : ℕ) → k < used kind → modeFine kind (now modes) (marksOf a b c d) k ≡ 0) × (length (now residuals) ≡ 384) ⌝ }
+    ensures { λ _. ⌜ ((numbers : List ℤ) → Transformed (firstFor kind) numbers (now (residuals .entry))
+        → now (plane .exit) ≡ square (cutFor kind) (lumaRule kind (now (modes .entry)) numbers) stride x y (marksOf a b c d) (now (plane .entry))) ⌝ }
 {
     let n = used_modes(kind);
     let mut k = 0;
     while k < n {
-        luma_block(plane, stride, x, y, a, b, c, d, kind, modes, numbers, k);
+        luma_block(plane, stride, x, y, a, b, c, d, kind, modes, residuals, k);
         k += 1;
     }
 }
 
-// A chroma plane's square, whose residuals are those of the coefficient blocks from `base` on.
+// A chroma plane's square, whose residuals are those of the blocks from `base` on.
 pub(crate) fn chroma_square(
     plane: &mut [u8],
     stride: usize,
@@ -165,12 +170,13 @@ pub(crate) fn chroma_square(
     c: bool,
     d: bool,
     mode: u8,
-    numbers: &[i32; 384],
+    residuals: &[i32],
     base: usize,
 )
     requires { ⌜ Fits 8 stride y x (length (now plane)) × Beside 8 stride y x b a d c ⌝ }
-    requires { ⌜ (modeAnswer 3 (permittedChroma b a d) mode ≡ 0) × (allInRange (now numbers) ≡ true) × (base + 4 ≤ 24) ⌝ }
-    ensures { λ _. ⌜ now (plane .exit) ≡ square (whole 8) (chromaRule mode (now (numbers .entry)) base) stride x y (marksOf a b c d) (now (plane .entry)) ⌝ }
+    requires { ⌜ (modeAnswer 3 (permittedChroma b a d) mode ≡ 0) × (length (now residuals) ≡ 384) × (base + 4 ≤ 24) ⌝ }
+    ensures { λ _. ⌜ ((first : ℕ) (numbers : List ℤ) → first ≤ base → Transformed first numbers (now (residuals .entry))
+        → now (plane .exit) ≡ square (whole 8) (chromaRule mode numbers base) stride x y (marksOf a b c d) (now (plane .entry))) ⌝ }
 {
     let m = Marks {
         above: b,
@@ -179,5 +185,5 @@ pub(crate) fn chroma_square(
         right: c,
     };
     let pred = predict_chroma(plane, stride, y, x, m, mode);
-    put_pieces(plane, stride, 2, y, x, &pred, numbers, base);
+    put_pieces(plane, stride, 2, y, x, &pred, residuals, base);
 }

@@ -1,5 +1,5 @@
-// What a macroblock call is refused for: a square or a neighbour outside its plane (2), an unknown record (6), a mode that is not permitted (7) and a
-// number out of range (8).
+// What a macroblock call is refused for before its numbers are read: a square or a neighbour outside its plane (2), an unknown record (6) and a mode that
+// is not permitted (7).
 ghost use mathlib.Core.Path.{_≡_};
 ghost use mathlib.Core.Bool.{cond, not, _&&_, _||_};
 ghost use mathlib.Core.List.{[], _∷_};
@@ -8,7 +8,6 @@ ghost use lib.Dec.{eqb, ltb, leb};
 ghost use Rattle.laws.specs.Answer.{_unless_, answer};
 ghost use Rattle.laws.specs.Table.{allBelow};
 ghost use Rattle.samples.specs.Marks.{permittedChroma};
-ghost use Rattle.samples.specs.Numbers.{allInRange};
 ghost use Rattle.macroblock.specs.Cut.{marksOf};
 ghost use Rattle.macroblock.specs.Rules.{room, rooms, used, lastMode, modeKnown, permittedFor, permittedAt};
 use super::cut::across;
@@ -76,29 +75,24 @@ fn implies(p: bool, q: bool) -> bool
     if p { q } else { true }
 }
 
-// What a record is refused for at these marks, and 0 where it is not.
+// What a record is refused for at these marks but for its numbers, and 0 where it is not.
 pub(crate) fn record_answer(
     kind: u8,
     modes: &[u8; 16],
     chroma_mode: u8,
-    numbers: &[i32; 384],
     a: bool,
     b: bool,
     c: bool,
     d: bool,
 ) -> u32
     ensures { λ r. ⌜ r ≡ answer (6 unless (leb kind 2 && allBelow 16 (modeKnown kind (now (modes .entry))) && leb «chroma_mode» 3)
-        ∷ 7 unless (allBelow (used kind) (permittedAt kind (now (modes .entry)) (marksOf a b c d)) && permittedChroma b a d «chroma_mode»)
-        ∷ 8 unless allInRange (now (numbers .entry)) ∷ []) ⌝ }
+        ∷ 7 unless (allBelow (used kind) (permittedAt kind (now (modes .entry)) (marksOf a b c d)) && permittedChroma b a d «chroma_mode») ∷ []) ⌝ }
 {
     if !is_known(kind, modes, chroma_mode) {
         return 6;
     }
     if !is_permitted(kind, modes, chroma_mode, a, b, c, d) {
         return 7;
-    }
-    if !samples::numbers::all_in_range(numbers) {
-        return 8;
     }
     0
 }

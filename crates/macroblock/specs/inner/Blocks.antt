@@ -2,13 +2,15 @@
 use mathlib.Core.Path.{_≡_}
 use mathlib.Core.Bool.{Bool, true}
 use mathlib.Core.List.{List}
-use Prim.Native.Nat.{ℕ, _+_, _*_, _-_, _<_, _≤_}
+use Prim.Native.Nat.{ℕ, zero, suc, _+_, _*_, _-_, _/_, _%_, _<_, _≤_}
+use lib.IntN.{ℤ}
 use lib.ListN.{getD}
+use Rattle.laws.specs.Range.{at}
 use Rattle.samples.specs.Marks.{modeAnswer}
 use Rattle.samples.specs.Nnz.{blkIdx}
 use Rattle.macroblock.specs.Cut.{Side, scanX, scanY, has}
 use Rattle.macroblock.specs.Cut.Side.{A, B, C, D}
-use Rattle.macroblock.specs.Kinds.{cutFor}
+use Rattle.macroblock.specs.Kinds.{residual4x4, cutFor}
 use Rattle.macroblock.specs.Rules.{lastMode, permittedFor}
 
 -- for m blocks across, places and numbers answer one another
@@ -47,3 +49,22 @@ abbrev pub modeFine : ℕ → List ℕ → (Side → Bool) → ℕ → ℕ
 modeFine kind modes marks k =
     let m = cutFor kind .across in
     modeAnswer (lastMode kind) (permittedFor kind (has m marks k B) (has m marks k A) (has m marks k D)) (getD modes k 0)
+
+-- ---- residuals where a macroblock's numbers stood
+-- those of the coefficient blocks from `first` on are transformed, and the numbers before them are as they were
+pub record Transformed (first : ℕ) (numbers residuals : List ℤ) : Type 0 where
+  pub before : (i : ℕ) → i < 16 * first → at residuals i ≡ at numbers i
+  pub after : (b x y : ℕ) → first ≤ b → b < 24 → x < 4 → y < 4 → at residuals (16 * b + (4 * y + x)) ≡ residual4x4 numbers b x y
+
+-- the first block that is transformed, by kind. Kind 1 brings luma residuals that are already transformed
+abbrev pub firstFor : ℕ → ℕ
+firstFor zero = 0
+firstFor (suc zero) = 16
+firstFor (suc (suc _)) = 0
+
+-- the residual of block b in column x and row y, and that of a larger block whose pieces are the blocks from b on
+abbrev pub inPiece : List ℤ → ℕ → ℕ → ℕ → ℤ
+inPiece residuals b x y = at residuals (16 * b + (4 * y + x))
+
+abbrev pub inPieces : List ℤ → ℕ → ℕ → ℕ → ℤ
+inPieces residuals b x y = inPiece residuals (b + blkIdx (x / 4) (y / 4)) (x % 4) (y % 4)

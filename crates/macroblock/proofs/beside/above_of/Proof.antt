@@ -1,15 +1,13 @@
 -- `macroblock::beside::above_of` meets its contract: what is copied lies in the row above, and the two stretches make up all that is asked for. Assumes nothing.
 use mathlib.Core.Path.{_≡_, ap, _∙_}
 use mathlib.Core.Bool.{Bool, true, cond}
-use mathlib.Core.List.{List}
 use Prim.Native.Nat.{ℕ, _+_, _*_, _-_, _≤_, _<_, min}
 use native.Mathlib.Omega.{arith}
-use lib.ListN.{length, getD, take, drop, length-take, length-drop}
-use lib.Seq.{getD-take, getD-drop}
+use lib.ListN.{length, getD, length-take, length-drop}
 use Rattle.laws.proofs.Tables.{table-there, table-absent}
 use Rattle.macroblock.specs.Square.{aboveOf}
 use Rattle.macroblock.proofs.Fitting.{in-above, reach-over, reach-right, reach-last}
-use Rattle.macroblock.proofs.Stretches.{length-stretch, stretches-are}
+use Rattle.macroblock.proofs.Stretches.{length-stretch, stretches-are, part-at}
 use borrow.Author.Needs.{needs}
 use Rattle.macroblock.proofs.beside.above_of.Statement.{statement}
 use Rattle.macroblock.proofs.beside.above_of.Tie as tie
@@ -35,10 +33,6 @@ over c =
       block = omega (arith, f .some, w .whole (a .column * a .q + (a .q - 1)) (omega (arith, f .some, f .wide)));
       next = λ h. omega (arith, f .some, w .whole (a .column * a .q + (2 * a .q - 1)) (omega (arith, f .some, u .pre .1 .4 h .1)));
     }
-
--- a place of the part from `line` on
-part-at : (line i : ℕ) (plane : List ℕ) → line + i < length plane → getD (take (length plane - line) (drop line plane)) i 0 ≡ getD plane (line + i) 0
-part-at line i plane h = getD-take (length plane - line) (drop line plane) i 0 (omega arith) ∙ getD-drop line plane i 0
 
 mul-line : tie.Need-mul-line
 mul-line c = let w = over c in omega arith
@@ -103,8 +97,8 @@ returns c =
     let w = over t in
     table-there _ _ 0 _ _ (t .if1 .taken)
     (stretches-are (a .q) _ _ _ (a .out .now) _ _ (p₁ .copy .ensures) (p₂ .copy2 .ensures)
-    (λ i h _. part-at (line + z) i (a .plane .now) (omega (arith, w .block)) ∙ ap (λ n. getD (a .plane .now) n 0) (reach-over line z (a .q) i (a .right) h))
-    (λ i k h. part-at (line + z) i (a .plane .now) (omega (arith, w .next (d .if2 .taken), u .pre .1 .1)) ∙ ap (λ n. getD (a .plane .now) n 0) (reach-right line z (a .q) i (a .right) (d .if2 .taken) (omega (arith, u .pre .1 .1)))))
+    (λ i h _. part-at 0 (a .plane .now) (line + z) (length (a .plane .now) - (line + z)) i (omega (arith, w .block)) ∙ ap (λ n. getD (a .plane .now) n 0) (reach-over line z (a .q) i (a .right) h))
+    (λ i k h. part-at 0 (a .plane .now) (line + z) (length (a .plane .now) - (line + z)) i (omega (arith, w .next (d .if2 .taken), u .pre .1 .1)) ∙ ap (λ n. getD (a .plane .now) n 0) (reach-right line z (a .q) i (a .right) (d .if2 .taken) (omega (arith, u .pre .1 .1)))))
 
 returns-2 : tie.Need-returns-2
 unfolding aboveOf
@@ -120,7 +114,7 @@ returns-2 c =
     let w = over t in
     table-there _ _ 0 _ _ (t .if1 .taken)
     (stretches-are (a .q) _ _ _ (a .out .now) _ _ (p₁ .copy .ensures) (p₂ .fill .ensures)
-    (λ i h _. part-at (line + z) i (a .plane .now) (omega (arith, w .block)) ∙ ap (λ n. getD (a .plane .now) n 0) (reach-over line z (a .q) i (a .right) h))
+    (λ i h _. part-at 0 (a .plane .now) (line + z) (length (a .plane .now) - (line + z)) i (omega (arith, w .block)) ∙ ap (λ n. getD (a .plane .now) n 0) (reach-over line z (a .q) i (a .right) h))
     (λ i k h. ap (λ n. getD (a .plane .now) n 0) (reach-last line z (a .q) i (a .right) (d .if2 .left) (u .pre .0 .some) k)))
 
 returns-3 : tie.Need-returns-3

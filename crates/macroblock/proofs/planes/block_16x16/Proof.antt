@@ -8,8 +8,10 @@ use Rattle.samples.specs.Marks.{permitted16x16}
 use Rattle.macroblock.specs.Cut.{marksOf, whole}
 use Rattle.macroblock.specs.Kinds.{lumaRule, residualIn}
 use Rattle.macroblock.specs.Square.{around}
+use Rattle.macroblock.specs.inner.Blocks.{inPieces}
 use Rattle.macroblock.proofs.Drawn.{drawn, fine-at, part-is, whole-marked, whole-row, whole-column}
 use Rattle.macroblock.proofs.Scan.{scan-4}
+use Rattle.macroblock.proofs.Sums.{pieces-transformed}
 use borrow.Author.Needs.{needs}
 use Rattle.macroblock.proofs.planes.block_16x16.Statement.{statement}
 use Rattle.macroblock.proofs.planes.block_16x16.Tie as tie
@@ -26,16 +28,16 @@ put-pieces-requires c κs =
     ((u .pre .0 .0, scan-4, omega arith, search needs), (omega arith, u .pre .1 .1))
 
 returns : tie.Need-returns
-returns c =
+returns c numbers T =
     let p = c .before .before in
     let d = p .before .before .before in
     let u = d .before .before .before .before in
     let a = u .args in
-    part-is (whole 16) (lumaRule 2 (a .modes .now) (a .numbers .now)) (a .stride) (a .x) (a .y) 0 (a .y) (a .x) (marksOf (a .a) (a .b) (a .c) (a .d)) (a .plane .now) _
+    part-is (whole 16) (lumaRule 2 (a .modes .now) numbers) (a .stride) (a .x) (a .y) 0 (a .y) (a .x) (marksOf (a .a) (a .b) (a .c) (a .d)) (a .plane .now) _
     (whole-marked (a .a) (a .b) (a .c) (a .d)) (whole-row (a .y)) (whole-column (a .x))
     (p .put-pieces .ensures
     ∙ drawn 16 (a .stride) (a .y) (a .x) (predL (getD (a .modes .now) 0 0) (a .b) (a .a) (around 16 (a .stride) (a .y) (a .x) (a .plane .now) 16 (a .b) (a .a) (a .d) (a .c)))
-    (residualIn (a .numbers .now) 0) (λ x y. y * 16 + x) (d .predict-16x16 .result) (a .plane .now) (omega arith) (d .predict-16x16 .ensures) (λ x y. refl))
+    (inPieces (a .residuals .now) 0) (residualIn numbers 0) (λ x y. y * 16 + x) (d .predict-16x16 .result) (a .plane .now) (omega arith) (d .predict-16x16 .ensures) (λ x y. refl) (pieces-transformed 4 0 scan-4 (omega arith) (omega arith) T))
 
 pub block-16x16-spec : {M : Type 1} → statement M
 block-16x16-spec =

@@ -9,6 +9,7 @@ use Rattle.samples.specs.Marks.{permittedNxN}
 use Rattle.macroblock.specs.Cut.{marksOf, four}
 use Rattle.macroblock.specs.Kinds.{lumaRule, residual4x4}
 use Rattle.macroblock.specs.Square.{around}
+use Rattle.macroblock.specs.inner.Blocks.{inPiece}
 use Rattle.macroblock.proofs.Drawn.{drawn, fine-at, part-is, AtBlock, at-block, top-in}
 use Rattle.macroblock.proofs.Scan.{scan-4}
 use borrow.Author.Needs.{needs}
@@ -66,7 +67,7 @@ put-4x4-requires c κs =
     ((block e .fits, search needs, omega arith), (omega (arith, u .pre .0 .2), u .pre .1 .1))
 
 returns : tie.Need-returns
-returns c =
+returns c numbers T =
     let p = c .before .before in
     let d = p .before .before .before in
     let e = d .before .before .before in
@@ -75,12 +76,13 @@ returns c =
     let m = e .marks-of .result in
     let Y = a .y * 4 + e .before .before .scan-y .result in
     let Z = a .x * 4 + e .before .scan-x .result in
-    part-is four (lumaRule 0 (a .modes .now) (a .numbers .now)) (a .stride) (a .x) (a .y) (a .k) Y Z (marksOf (a .a) (a .b) (a .c) (a .d)) (a .plane .now) _ (e .marks-of .ensures)
+    part-is four (lumaRule 0 (a .modes .now) numbers) (a .stride) (a .x) (a .y) (a .k) Y Z (marksOf (a .a) (a .b) (a .c) (a .d)) (a .plane .now) _ (e .marks-of .ensures)
     (ap (λ n. a .y * 4 + n) (e .before .before .scan-y .ensures)) (ap (λ n. a .x * 4 + n) (e .before .scan-x .ensures))
     (p .put-4x4 .ensures
     ∙ drawn 4 (a .stride) Y Z
-    (pred4x4L (getD (a .modes .now) (a .k) 0) (m .above) (m .left) (m .corner) (around 4 (a .stride) Y Z (a .plane .now) 8 (m .above) (m .left) (m .corner) (m .right))) (residual4x4 (a .numbers .now) (a .k))
-    (λ x y. 0 + y * 4 + x) (d .predict-4x4 .result) (a .plane .now) (omega arith) (d .predict-4x4 .ensures) (λ x y. omega arith))
+    (pred4x4L (getD (a .modes .now) (a .k) 0) (m .above) (m .left) (m .corner) (around 4 (a .stride) Y Z (a .plane .now) 8 (m .above) (m .left) (m .corner) (m .right))) (inPiece (a .residuals .now) (a .k)) (residual4x4 numbers (a .k))
+    (λ x y. 0 + y * 4 + x) (d .predict-4x4 .result) (a .plane .now) (omega arith) (d .predict-4x4 .ensures) (λ x y. omega arith)
+    (λ x y. T .after (a .k) x y (omega arith) (omega (arith, u .pre .0 .2))))
 
 pub block-4x4-spec : {M : Type 1} → statement M
 block-4x4-spec =

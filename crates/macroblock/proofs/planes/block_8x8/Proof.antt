@@ -67,7 +67,7 @@ put-8x8-requires c κs =
     (block e .fits, search needs, u .pre .0 .2, u .pre .1 .1)
 
 returns : tie.Need-returns
-returns c =
+returns c numbers T =
     let p = c .before .before in
     let d = p .before .before .before in
     let e = d .before .before .before in
@@ -76,12 +76,13 @@ returns c =
     let m = e .marks-of .result in
     let Y = a .y * 2 + e .before .before .scan-y .result in
     let Z = a .x * 2 + e .before .scan-x .result in
-    part-is eight (lumaRule 1 (a .modes .now) (a .numbers .now)) (a .stride) (a .x) (a .y) (a .k) Y Z (marksOf (a .a) (a .b) (a .c) (a .d)) (a .plane .now) _ (e .marks-of .ensures)
+    part-is eight (lumaRule 1 (a .modes .now) numbers) (a .stride) (a .x) (a .y) (a .k) Y Z (marksOf (a .a) (a .b) (a .c) (a .d)) (a .plane .now) _ (e .marks-of .ensures)
     (ap (λ n. a .y * 2 + n) (e .before .before .scan-y .ensures)) (ap (λ n. a .x * 2 + n) (e .before .scan-x .ensures))
     (p .put-8x8 .ensures
     ∙ drawn 8 (a .stride) Y Z
-    (pred8x8L (getD (a .modes .now) (a .k) 0) (m .above) (m .left) (m .corner) (around 8 (a .stride) Y Z (a .plane .now) 16 (m .above) (m .left) (m .corner) (m .right))) (λ x y. at (a .numbers .now) (64 * a .k + (y * 8 + x)))
-    (λ x y. y * 8 + x) (d .predict-8x8 .result) (a .plane .now) (omega arith) (d .predict-8x8 .ensures) (λ x y. omega arith))
+    (pred8x8L (getD (a .modes .now) (a .k) 0) (m .above) (m .left) (m .corner) (around 8 (a .stride) Y Z (a .plane .now) 16 (m .above) (m .left) (m .corner) (m .right))) (λ x y. at (a .residuals .now) (64 * a .k + (y * 8 + x))) (λ x y. at numbers (64 * a .k + (y * 8 + x)))
+    (λ x y. y * 8 + x) (d .predict-8x8 .result) (a .plane .now) (omega arith) (d .predict-8x8 .ensures) (λ x y. omega arith)
+    (λ x y hx hy. T .before (64 * a .k + (y * 8 + x)) (omega (arith, u .pre .0 .2))))
 
 pub block-8x8-spec : {M : Type 1} → statement M
 block-8x8-spec =

@@ -7,8 +7,10 @@ use Rattle.samples.specs.IntraChroma.{predC}
 use Rattle.macroblock.specs.Cut.{marksOf, whole}
 use Rattle.macroblock.specs.Kinds.{chromaRule, residualIn}
 use Rattle.macroblock.specs.Square.{around}
+use Rattle.macroblock.specs.inner.Blocks.{inPieces}
 use Rattle.macroblock.proofs.Drawn.{drawn, part-is, whole-marked, whole-row, whole-column}
 use Rattle.macroblock.proofs.Scan.{scan-2}
+use Rattle.macroblock.proofs.Sums.{pieces-transformed}
 use borrow.Author.Needs.{needs}
 use Rattle.macroblock.proofs.planes.chroma_square.Statement.{statement}
 use Rattle.macroblock.proofs.planes.chroma_square.Tie as tie
@@ -23,16 +25,16 @@ put-pieces-requires c κs =
 
 returns : tie.Need-returns
 unfolding upTo
-returns c =
+returns c first numbers low T =
     let p = c .before .before in
     let d = p .before .before .before in
     let u = d .before .before .before in
     let a = u .args in
-    part-is (whole 8) (chromaRule (a .mode) (a .numbers .now) (a .base)) (a .stride) (a .x) (a .y) 0 (a .y) (a .x) (marksOf (a .a) (a .b) (a .c) (a .d)) (a .plane .now) _
+    part-is (whole 8) (chromaRule (a .mode) numbers (a .base)) (a .stride) (a .x) (a .y) 0 (a .y) (a .x) (marksOf (a .a) (a .b) (a .c) (a .d)) (a .plane .now) _
     (whole-marked (a .a) (a .b) (a .c) (a .d)) (whole-row (a .y)) (whole-column (a .x))
     (p .put-pieces .ensures
     ∙ drawn 8 (a .stride) (a .y) (a .x) (predC (a .mode) (a .b) (a .a) (around 8 (a .stride) (a .y) (a .x) (a .plane .now) 8 (a .b) (a .a) (a .d) (a .c)))
-    (residualIn (a .numbers .now) (a .base)) (λ x y. y * 8 + x) (d .predict-chroma .result) (a .plane .now) (omega arith) (d .predict-chroma .ensures) (λ x y. refl))
+    (inPieces (a .residuals .now) (a .base)) (residualIn numbers (a .base)) (λ x y. y * 8 + x) (d .predict-chroma .result) (a .plane .now) (omega arith) (d .predict-chroma .ensures) (λ x y. refl) (pieces-transformed 2 (a .base) scan-2 low (omega (arith, u .pre .1 .2)) T))
 
 pub chroma-square-spec : {M : Type 1} → statement M
 chroma-square-spec =

@@ -3,11 +3,12 @@ use mathlib.Core.Path.{_≡_, sym, ap, _∙_, subst}
 use mathlib.Core.List.{List}
 use Prim.Native.Nat.{ℕ, _<_}
 use native.Mathlib.Omega.{arith}
+use lib.IntN.{ℤ}
 use Rattle.macroblock.specs.Cut.{marksOf}
 use Rattle.macroblock.specs.Kinds.{cutFor, lumaRule}
 use Rattle.macroblock.specs.Rules.{used}
 use Rattle.macroblock.specs.Square.{part}
-use Rattle.macroblock.specs.inner.Blocks.{modeFine}
+use Rattle.macroblock.specs.inner.Blocks.{modeFine, Transformed, firstFor}
 use Rattle.macroblock.proofs.ByKind.{other-kind}
 use borrow.Author.Needs.{needs}
 use Rattle.macroblock.proofs.planes.luma_block.Statement.{statement}
@@ -48,33 +49,38 @@ block-16x16-requires c κs =
       ),
     )
 
--- block k of a kind, rebuilt
-rebuilt : (u : tie.Start) → ℕ → ℕ → List ℕ
-rebuilt u n k = let a = u .args in part (cutFor n) (lumaRule n (a .modes .now) (a .numbers .now)) (a .stride) (a .x) (a .y) (marksOf (a .a) (a .b) (a .c) (a .d)) k (a .plane .now)
+-- block k of a kind, rebuilt, and what its numbers must be
+rebuilt : (u : tie.Start) → List ℤ → ℕ → ℕ → List ℕ
+rebuilt u numbers n k = let a = u .args in part (cutFor n) (lumaRule n (a .modes .now) numbers) (a .stride) (a .x) (a .y) (marksOf (a .a) (a .b) (a .c) (a .d)) k (a .plane .now)
+
+abbrev ready : (u : tie.Start) → List ℤ → ℕ → Type 0
+ready u numbers n = Transformed (firstFor n) numbers (u .args .residuals .now)
 
 returns : tie.Need-returns
 unfolding rebuilt
-returns c =
+returns c numbers T =
     let u = c .before .before .before .before .before .before in
-    let e : 0 ≡ u .args .kind = omega arith in
-    c .before .before .block-4x4 .ensures ∙ ap (λ n. rebuilt u n (u .args .k)) e
+    let e : u .args .kind ≡ 0 = omega arith in
+    c .before .before .block-4x4 .ensures numbers (subst (ready u numbers) e T) ∙ ap (λ n. rebuilt u numbers n (u .args .k)) (sym e)
 
 returns-2 : tie.Need-returns-2
 unfolding rebuilt
-returns-2 c =
+returns-2 c numbers T =
     let u = c .before .before .before .before .before .before .before in
-    let e : 1 ≡ u .args .kind = omega arith in
-    c .before .before .block-8x8 .ensures ∙ ap (λ n. rebuilt u n (u .args .k)) e
+    let e : u .args .kind ≡ 1 = omega arith in
+    c .before .before .block-8x8 .ensures numbers (subst (ready u numbers) e T) ∙ ap (λ n. rebuilt u numbers n (u .args .k)) (sym e)
 
 returns-3 : tie.Need-returns-3
 unfolding rebuilt
-returns-3 c =
+returns-3 c numbers T =
     let b = c .before .before in
     let d = b .before .before in
     let u = d .before .before .before in
     let k = u .args .k in
-    b .block-16x16 .ensures
-    ∙ other-kind (λ n. k < used n → rebuilt u 2 0 ≡ rebuilt u n k) (λ j l. ap (rebuilt u 2) (sym (first k l))) (u .args .kind) (d .before .if1 .left) (d .if2 .left) (u .pre .0 .2)
+    let n₀ = d .before .if1 .left in
+    let n₁ = d .if2 .left in
+    b .block-16x16 .ensures numbers (other-kind (λ n. ready u numbers n → ready u numbers 2) (λ j t. t) (u .args .kind) n₀ n₁ T)
+    ∙ other-kind (λ n. k < used n → rebuilt u numbers 2 0 ≡ rebuilt u numbers n k) (λ j l. ap (rebuilt u numbers 2) (sym (first k l))) (u .args .kind) n₀ n₁ (u .pre .0 .2)
 
 pub luma-block-spec : {M : Type 1} → statement M
 luma-block-spec =

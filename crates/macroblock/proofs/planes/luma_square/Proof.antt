@@ -1,7 +1,9 @@
 -- `macroblock::planes::luma_square` meets its contract. The invariant: the first k blocks are rebuilt. Assumes nothing.
-use mathlib.Core.Path.{_≡_, sym, ap, _∙_, subst}
+use mathlib.Core.Path.{_≡_, refl, sym, ap, _∙_, subst}
+use mathlib.Core.List.{List}
 use Prim.Native.Nat.{_-_, _<_, _≤_}
 use native.Mathlib.Omega.{arith}
+use lib.IntN.{ℤ}
 use lib.ListN.{length}
 use Rattle.laws.specs.Steps.{upTo}
 use Rattle.laws.proofs.Steps.{steps-none, steps-more}
@@ -9,27 +11,22 @@ use Rattle.macroblock.specs.Cut.{marksOf, blocks}
 use Rattle.macroblock.specs.Kinds.{cutFor, lumaRule}
 use Rattle.macroblock.specs.Rules.{used}
 use Rattle.macroblock.specs.Square.{part}
-use Rattle.macroblock.specs.inner.Blocks.{Fits}
+use Rattle.macroblock.specs.inner.Blocks.{Fits, Transformed, firstFor}
 use Rattle.macroblock.proofs.ByKind.{used-is}
-use Rattle.macroblock.proofs.Locality.{length-steps}
 use borrow.Author.Needs.{needs}
 use Rattle.macroblock.proofs.planes.luma_square.Statement.{statement}
 use Rattle.macroblock.proofs.planes.luma_square.Tie as tie
 
 abbrev Inv-loop : tie.InvT-loop
-Inv-loop plane₀ stride x y a b c d kind modes numbers n k₀ plane k =
-    (k ≤ n) × (plane ≡ upTo (part (cutFor kind) (lumaRule kind modes numbers) stride x y (marksOf a b c d)) k plane₀)
+Inv-loop plane₀ stride x y a b c d kind modes residuals n k₀ plane k =
+    (k ≤ n) × (length plane ≡ length plane₀)
+    × ((numbers : List ℤ) → Transformed (firstFor kind) numbers residuals → plane ≡ upTo (part (cutFor kind) (lumaRule kind modes numbers) stride x y (marksOf a b c d)) k plane₀)
 
 abbrev μ-loop : tie.MeasureT-loop
-μ-loop plane₀ stride x y a b c d kind modes numbers n k₀ plane k = n - k
-
-long : (c : tie.At-loop Inv-loop μ-loop) → length (c .loop .plane) ≡ length (c .before .before .before .args .plane .now)
-long c =
-    let a = c .before .before .before .args in
-    ap length (c .loop .inv .1) ∙ length-steps (cutFor (a .kind)) (lumaRule (a .kind) (a .modes .now) (a .numbers .now)) (a .stride) (a .x) (a .y) (marksOf (a .a) (a .b) (a .c) (a .d)) (c .loop .k) (a .plane .now)
+μ-loop plane₀ stride x y a b c d kind modes residuals n k₀ plane k = n - k
 
 loop-holds : tie.Need-loop-holds Inv-loop μ-loop
-loop-holds c = (omega arith, steps-none _ _)
+loop-holds c = (omega arith, refl, λ numbers T. steps-none _ _)
 
 luma-block-requires : tie.Need-luma-block-requires Inv-loop μ-loop
 luma-block-requires c κs =
@@ -38,26 +35,29 @@ luma-block-requires c κs =
     let u = n .before .before in
     let a = u .args in
     let l : b .loop .k < used (a .kind) = omega (arith, n .used-modes .ensures) in
-    ((subst (Fits 16 (a .stride) (a .y) (a .x)) (sym (long b)) (u .pre .0 .0), u .pre .0 .1, l), (u .pre .1 .0 (b .loop .k) l, u .pre .1 .1))
+    ((subst (Fits 16 (a .stride) (a .y) (a .x)) (sym (b .loop .inv .1)) (u .pre .0 .0), u .pre .0 .1, l), (u .pre .1 .0 (b .loop .k) l, u .pre .1 .1))
 
 loop-again : tie.Need-loop-again Inv-loop μ-loop
 loop-again c =
     let p = c .before .before in
     let b = p .before .before .before in
-    let a = b .before .before .before .args in
-    (omega arith, steps-more _ (b .loop .k) (a .plane .now) (b .loop .plane) _ (b .loop .inv .1) (p .luma-block .ensures))
+    let a = b .before .before .before .args in (
+      omega arith,
+      c .before .plane .given ∙ b .loop .inv .1,
+      λ numbers T. steps-more _ (b .loop .k) (a .plane .now) (b .loop .plane) _ (b .loop .inv .2 numbers T) (p .luma-block .ensures numbers T),
+    )
 
 same-length : tie.Need-same-length Inv-loop μ-loop
-same-length c = long (c .before)
+same-length c = c .before .loop .inv .1
 
 returns : tie.Need-returns Inv-loop μ-loop
-returns c =
+returns c numbers T =
     let b = c .before in
     let n = b .before in
     let a = n .before .before .args in
     let e : b .loop .k ≡ blocks (cutFor (a .kind)) = omega (arith, n .used-modes .ensures, used-is (a .kind)) in
-    b .loop .inv .1
-    ∙ ap (λ n. upTo (part (cutFor (a .kind)) (lumaRule (a .kind) (a .modes .now) (a .numbers .now)) (a .stride) (a .x) (a .y) (marksOf (a .a) (a .b) (a .c) (a .d))) n (a .plane .now)) e
+    b .loop .inv .2 numbers T
+    ∙ ap (λ n. upTo (part (cutFor (a .kind)) (lumaRule (a .kind) (a .modes .now) numbers) (a .stride) (a .x) (a .y) (marksOf (a .a) (a .b) (a .c) (a .d))) n (a .plane .now)) e
 
 pub luma-square-spec : {M : Type 1} → statement M
 luma-square-spec =

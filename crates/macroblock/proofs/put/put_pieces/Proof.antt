@@ -10,26 +10,25 @@ use Rattle.laws.proofs.Digits.{mul-most}
 use Rattle.laws.proofs.Steps.{steps-none, steps-more}
 use Rattle.samples.specs.Clip.{Clip1}
 use Rattle.macroblock.specs.Cut.{scanX, scanY}
-use Rattle.macroblock.specs.Kinds.{residual4x4, residualIn}
 use Rattle.macroblock.specs.Square.{putBlock}
-use Rattle.macroblock.specs.inner.Blocks.{Fits}
+use Rattle.macroblock.specs.inner.Blocks.{Fits, inPiece, inPieces}
 use Rattle.macroblock.proofs.Pieces.{putPiece, wholeOf, length-pieces, pieces-are, put-same, place-in, AtPiece, at-piece}
 use borrow.Author.Needs.{needs}
 use Rattle.macroblock.proofs.put.put_pieces.Statement.{statement}
 use Rattle.macroblock.proofs.put.put_pieces.Tie as tie
 
--- the samples of the piece that begins at o and has coefficient block n, and of piece k
+-- the samples of the piece that begins at o and has the residuals of block n, and of piece k
 abbrev sumFrom : (o m n : ℕ) → List ℕ → List ℤ → ℕ → ℕ → ℕ
-sumFrom o m n pred numbers x y = Clip1 (pos (getD pred (o + y * (4 * m) + x) 0) +ℤ residual4x4 numbers n x y)
+sumFrom o m n pred residuals x y = Clip1 (pos (getD pred (o + y * (4 * m) + x) 0) +ℤ inPiece residuals n x y)
 
 abbrev sumAt : (m base : ℕ) → List ℕ → List ℤ → ℕ → ℕ → ℕ → ℕ
-sumAt m base pred numbers k = sumFrom (scanY k * 4 * (4 * m) + scanX k * 4) m (base + k) pred numbers
+sumAt m base pred residuals k = sumFrom (scanY k * 4 * (4 * m) + scanX k * 4) m (base + k) pred residuals
 
 abbrev Inv-loop : tie.InvT-loop
-Inv-loop plane₀ stride m row column pred numbers base k₀ plane k = (k ≤ m * m) × (plane ≡ upTo (putPiece 4 m stride column row (sumAt m base pred numbers)) k plane₀)
+Inv-loop plane₀ stride m row column pred residuals base k₀ plane k = (k ≤ m * m) × (plane ≡ upTo (putPiece 4 m stride column row (sumAt m base pred residuals)) k plane₀)
 
 abbrev μ-loop : tie.MeasureT-loop
-μ-loop plane₀ stride m row column pred numbers base k₀ plane k = m * m - k
+μ-loop plane₀ stride m row column pred residuals base k₀ plane k = m * m - k
 
 loop-holds : tie.Need-loop-holds Inv-loop μ-loop
 loop-holds c = (omega arith, steps-none _ _)
@@ -37,7 +36,7 @@ loop-holds c = (omega arith, steps-none _ _)
 long : (c : tie.At-loop Inv-loop μ-loop) → length (c .loop .plane) ≡ length (c .before .before .before .args .plane .now)
 long c =
     let a = c .before .before .before .args in
-    ap length (c .loop .inv .1) ∙ length-pieces 4 (a .m) (a .stride) (a .column) (a .row) (sumAt (a .m) (a .base) (a .pred .now) (a .numbers .now)) (c .loop .k) (a .plane .now)
+    ap length (c .loop .inv .1) ∙ length-pieces 4 (a .m) (a .stride) (a .column) (a .row) (sumAt (a .m) (a .base) (a .pred .now) (a .residuals .now)) (c .loop .k) (a .plane .now)
 
 few : (c : tie.In-loop Inv-loop μ-loop) → c .before .loop .k < 16
 few c = let u = c .before .before .before .before in omega (arith, mul-most (u .args .m) (u .args .m) 4 4 (u .pre .0 .2) (u .pre .0 .2))
@@ -106,7 +105,7 @@ loop-again c =
       omega arith,
       steps-more _ (b .loop .k) (a .plane .now) (b .loop .plane) _ (b .loop .inv .1) (
           p .put-4x4 .ensures
-          ∙ ap₂ (λ u v. putBlock 4 (a .stride) (a .row * a .m + v) (a .column * a .m + u) (sumFrom (v * 4 * (4 * a .m) + u * 4) (a .m) (a .base + b .loop .k) (a .pred .now) (a .numbers .now)) (b .loop .plane))
+          ∙ ap₂ (λ u v. putBlock 4 (a .stride) (a .row * a .m + v) (a .column * a .m + u) (sumFrom (v * 4 * (4 * a .m) + u * 4) (a .m) (a .base + b .loop .k) (a .pred .now) (a .residuals .now)) (b .loop .plane))
           (y .before .scan-x .ensures) (y .scan-y .ensures)
           ),
     )
@@ -120,12 +119,12 @@ returns c =
     let u = b .before .before .before in
     let a = u .args in
     let S = u .pre .0 .1 in
-    let f = sumAt (a .m) (a .base) (a .pred .now) (a .numbers .now) in
+    let f = sumAt (a .m) (a .base) (a .pred .now) (a .residuals .now) in
     let e : b .loop .k ≡ a .m * a .m = omega arith in
     b .loop .inv .1 ∙ ap (λ n. upTo (putPiece 4 (a .m) (a .stride) (a .column) (a .row) f) n (a .plane .now)) e
     ∙ pieces-are 4 (a .m) (a .stride) (a .column) (a .row) (length (a .plane .now)) f S (omega arith) (u .pre .0 .0) (a .plane .now) refl
     ∙ put-same (4 * a .m) (a .stride) (a .row) (a .column) (wholeOf 4 f) _ (a .plane .now) (omega (arith, S .some))
-    (λ x y hx hy. ap (λ n. Clip1 (pos (getD (a .pred .now) n 0) +ℤ residualIn (a .numbers .now) (a .base) x y))
+    (λ x y hx hy. ap (λ n. Clip1 (pos (getD (a .pred .now) n 0) +ℤ inPieces (a .residuals .now) (a .base) x y))
     (ap₂ (λ v u. v * 4 * (4 * a .m) + u * 4 + y % 4 * (4 * a .m) + x % 4) (S .of-y (x / 4) (y / 4) (omega arith) (omega arith)) (S .of-x (x / 4) (y / 4) (omega arith) (omega arith))
     ∙ place-in (4 * a .m) x y))
 

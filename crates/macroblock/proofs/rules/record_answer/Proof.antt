@@ -15,23 +15,8 @@ returns-2 c =
 
 returns-3 : tie.Need-returns-3
 returns-3 c =
-    let f = c .before .before .before in
-    let e = f .before .before in
-    rw (
-      sym (e .before .is-known .ensures) ∙ not-false _ (e .if1 .left),
-      sym (f .before .is-permitted .ensures) ∙ not-false _ (f .if2 .left),
-      sym (c .before .all-in-range .ensures) ∙ not-true _ (c .if3 .taken),
-    )
-
-returns-4 : tie.Need-returns-4
-returns-4 c =
-    let f = c .before .before .before in
-    let e = f .before .before in
-    rw (
-      sym (e .before .is-known .ensures) ∙ not-false _ (e .if1 .left),
-      sym (f .before .is-permitted .ensures) ∙ not-false _ (f .if2 .left),
-      sym (c .before .all-in-range .ensures) ∙ not-false _ (c .if3 .left),
-    )
+    let e = c .before .before in
+    rw (sym (e .before .is-known .ensures) ∙ not-false _ (e .if1 .left), sym (c .before .is-permitted .ensures) ∙ not-false _ (c .if2 .left))
 
 pub record-answer-spec : {M : Type 1} → statement M
 record-answer-spec =
@@ -41,6 +26,4 @@ record-answer-spec =
     returns
     (λ c κs. search needs)
     returns-2
-    (λ c κs. search needs)
-    returns-3
-    returns-4)
+    returns-3)

@@ -1,0 +1,22 @@
+// The residuals of a macroblock, before any of its blocks is rebuilt (clauses 8.5.1, 8.5.2 and 8.5.4).
+ghost use mathlib.Core.Path.{_≡_};
+ghost use mathlib.Core.List.{[], _∷_};
+ghost use lib.ListN.{length};
+ghost use Rattle.laws.specs.Answer.{_unless_, answer};
+ghost use Rattle.samples.specs.Numbers.{allInRange};
+ghost use Rattle.macroblock.specs.inner.Blocks.{Transformed, firstFor};
+
+// Transforms a record's numbers where they stand, unless one is out of range. The luma residuals of kind 1 come transformed.
+pub(crate) fn residuals_of(kind: u8, numbers: &mut [i32]) -> u32
+    requires { ⌜ length (now numbers) ≡ 384 ⌝ }
+    ensures { λ r. ⌜ r ≡ answer (8 unless allInRange (now (numbers .entry)) ∷ []) ⌝ }
+    ensures { λ r. ⌜ (r ≡ 0 → Transformed (firstFor kind) (now (numbers .entry)) (now (numbers .exit))) ⌝ }
+{
+    if kind == 1 {
+        if !samples::numbers::all_in_range(&numbers[..256]) {
+            return 8;
+        }
+        return samples::inverse::inverse_blocks(&mut numbers[256..]);
+    }
+    samples::inverse::inverse_blocks(numbers)
+}
