@@ -74,10 +74,10 @@ in-plane q s Y Z n i F t =
     let m : (Y * q + i / s % q) * s ≤ (Y * q + (q - 1)) * s = mul-le-mul-right s (omega arith) in
     omega (arith, place-is q s Y Z i t, F .within)
 
-pub length-part : (c : Cut) (rule : Rule) (s x y : ℕ) (marks : Side → Bool) (k : ℕ) (p : List ℕ) → length (part c rule s x y marks k p) ≡ length p
+length-part : (c : Cut) (rule : Rule) (s x y : ℕ) (marks : Side → Bool) (k : ℕ) (p : List ℕ) → length (part c rule s x y marks k p) ≡ length p
 length-part c rule s x y marks k p = length-patch (inBlock (c .side) s (y * c .across + scanY k) (x * c .across + scanX k)) _ p
 
-pub length-steps : (c : Cut) (rule : Rule) (s x y : ℕ) (marks : Side → Bool) (k : ℕ) (p : List ℕ) → length (upTo (part c rule s x y marks) k p) ≡ length p
+length-steps : (c : Cut) (rule : Rule) (s x y : ℕ) (marks : Side → Bool) (k : ℕ) (p : List ℕ) → length (upTo (part c rule s x y marks) k p) ≡ length p
 unfolding upTo
 length-steps c rule s x y marks zero p = refl
 length-steps c rule s x y marks (suc k) p = length-part c rule s x y marks k (upTo (part c rule s x y marks) k p) ∙ length-steps c rule s x y marks k p
