@@ -30,8 +30,18 @@ pub(crate) fn predict_4x4(
     let mut left = [0u8; 4];
     left_of(plane, stride, 4, row, column, m.left, &mut left);
     let corner = corner_of(plane, stride, 4, row, column, m.corner);
-    let p = samples::intra_nxn::intra4x4_pred(mode, m.above, m.left, m.corner, &top, &left, corner);
-    p.block
+    let mut pred = [0u8; 16];
+    samples::intra_nxn::intra4x4_pred_into(
+        mode,
+        m.above,
+        m.left,
+        m.corner,
+        &top,
+        &left,
+        corner,
+        &mut pred,
+    );
+    pred
 }
 
 pub(crate) fn predict_8x8(
@@ -51,8 +61,18 @@ pub(crate) fn predict_8x8(
     let mut left = [0u8; 8];
     left_of(plane, stride, 8, row, column, m.left, &mut left);
     let corner = corner_of(plane, stride, 8, row, column, m.corner);
-    let p = samples::intra_nxn::intra8x8_pred(mode, m.above, m.left, m.corner, &top, &left, corner);
-    p.block
+    let mut pred = [0u8; 64];
+    samples::intra_nxn::intra8x8_pred_into(
+        mode,
+        m.above,
+        m.left,
+        m.corner,
+        &top,
+        &left,
+        corner,
+        &mut pred,
+    );
+    pred
 }
 
 pub(crate) fn predict_16x16(
@@ -72,7 +92,8 @@ pub(crate) fn predict_16x16(
     let mut left = [0u8; 16];
     left_of(plane, stride, 16, row, column, m.left, &mut left);
     let corner = corner_of(plane, stride, 16, row, column, m.corner);
-    let p = samples::intra_16x16::luma16x16_pred(
+    let mut pred = [0u8; 256];
+    samples::intra_16x16::luma16x16_pred_into(
         mode,
         m.above,
         m.left,
@@ -80,8 +101,9 @@ pub(crate) fn predict_16x16(
         &top,
         &left,
         corner,
+        &mut pred,
     );
-    p.block
+    pred
 }
 
 pub(crate) fn predict_chroma(
@@ -101,7 +123,8 @@ pub(crate) fn predict_chroma(
     let mut left = [0u8; 8];
     left_of(plane, stride, 8, row, column, m.left, &mut left);
     let corner = corner_of(plane, stride, 8, row, column, m.corner);
-    let p = samples::intra_chroma::chroma8x8_pred(
+    let mut pred = [0u8; 64];
+    samples::intra_chroma::chroma8x8_pred_into(
         mode,
         m.above,
         m.left,
@@ -109,6 +132,7 @@ pub(crate) fn predict_chroma(
         &top,
         &left,
         corner,
+        &mut pred,
     );
-    p.block
+    pred
 }

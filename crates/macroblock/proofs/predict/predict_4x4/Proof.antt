@@ -1,7 +1,9 @@
 -- `macroblock::predict::predict_4x4` meets its contract: the samples beside the block are the definition's, and the mode is not refused. Assumes nothing.
+use mathlib.Core.Path.{refl}
 use lib.ListN.{replicate}
 use Rattle.laws.specs.Table.{blockOf}
 use Rattle.samples.specs.IntraNxN.{pred4x4L}
+use Rattle.samples.specs.Marks.{permittedNxN}
 use Rattle.samples.specs.Near.{near}
 use Rattle.macroblock.proofs.Predicted.{predicted}
 use borrow.Author.Needs.{needs}
@@ -11,13 +13,16 @@ use Rattle.macroblock.proofs.predict.predict_4x4.Tie as tie
 returns : tie.Need-returns
 returns c =
     let p = c .before in
-    let r = p .before .before .before in
+    let r = p .before .before .before .before in
     let l = r .before .before in
     let t = l .before .before .before in
     let u = t .before .before .before in
-    let m = u .args .m in
-    predicted (λ top left corner. blockOf 4 (pred4x4L (u .args .mode) (m .above) (m .left) (m .corner) (near top left corner))) (replicate 16 0)
-    (p .intra4x4-pred .ensures .0) (u .pre .1) (p .intra4x4-pred .ensures .1) (t .above-of .ensures) (l .left-of .ensures) (r .corner-of .ensures)
+    let a = u .args in
+    let m = a .m in
+    predicted 4 (a .stride) (a .row) (a .column) 8 16 (a .plane .now) (m .above) (m .left) (m .right)
+    (λ top left corner. blockOf 4 (pred4x4L (a .mode) (m .above) (m .left) (m .corner) (near top left corner))) (replicate 16 0)
+    8 (permittedNxN (m .above) (m .left) (m .corner)) (a .mode) (p .intra4x4-pred-into .ensures .0) refl (u .pre .1) (p .intra4x4-pred-into .ensures .1) (t .above-of .ensures) (l .left-of .ensures)
+    (r .corner-of .ensures)
 
 pub predict-4x4-spec : {M : Type 1} → statement M
 predict-4x4-spec =
@@ -28,5 +33,8 @@ predict-4x4-spec =
     (λ c. search needs)
     (λ c κs. search needs)
     (λ c κs. search needs)
+    (λ c. search needs)
+    (λ c. search needs)
+    (λ c. search needs)
     (λ c κs. search needs)
     returns)

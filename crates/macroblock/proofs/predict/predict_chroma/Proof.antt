@@ -1,7 +1,9 @@
 -- `macroblock::predict::predict_chroma` meets its contract: the samples beside the block are the definition's, and the mode is not refused. Assumes nothing.
+use mathlib.Core.Path.{refl}
 use lib.ListN.{replicate}
 use Rattle.laws.specs.Table.{blockOf}
 use Rattle.samples.specs.IntraChroma.{predC}
+use Rattle.samples.specs.Marks.{permittedChroma}
 use Rattle.samples.specs.Near.{near}
 use Rattle.macroblock.proofs.Predicted.{predicted}
 use borrow.Author.Needs.{needs}
@@ -11,13 +13,16 @@ use Rattle.macroblock.proofs.predict.predict_chroma.Tie as tie
 returns : tie.Need-returns
 returns c =
     let p = c .before in
-    let r = p .before .before .before in
+    let r = p .before .before .before .before in
     let l = r .before .before in
     let t = l .before .before .before in
     let u = t .before .before .before in
-    let m = u .args .m in
-    predicted (λ top left corner. blockOf 8 (predC (u .args .mode) (m .above) (m .left) (near top left corner))) (replicate 64 0)
-    (p .chroma8x8-pred .ensures .0) (u .pre .1) (p .chroma8x8-pred .ensures .1) (t .above-of .ensures) (l .left-of .ensures) (r .corner-of .ensures)
+    let a = u .args in
+    let m = a .m in
+    predicted 8 (a .stride) (a .row) (a .column) 8 64 (a .plane .now) (m .above) (m .left) (m .right)
+    (λ top left corner. blockOf 8 (predC (a .mode) (m .above) (m .left) (near top left corner))) (replicate 64 0)
+    3 (permittedChroma (m .above) (m .left) (m .corner)) (a .mode) (p .chroma8x8-pred-into .ensures .0) refl (u .pre .1) (p .chroma8x8-pred-into .ensures .1) (t .above-of .ensures) (l .left-of .ensures)
+    (r .corner-of .ensures)
 
 pub predict-chroma-spec : {M : Type 1} → statement M
 predict-chroma-spec =
@@ -28,5 +33,8 @@ predict-chroma-spec =
     (λ c. search needs)
     (λ c κs. search needs)
     (λ c κs. search needs)
+    (λ c. search needs)
+    (λ c. search needs)
+    (λ c. search needs)
     (λ c κs. search needs)
     returns)
