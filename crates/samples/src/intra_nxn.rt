@@ -164,7 +164,8 @@ fn draw4(mode: u8, above: bool, left: bool, e: [u8; 81], out: &mut [u8])
     ensures { λ _. ⌜ ((p : Near) → Run 4 p e → now (out .exit) ≡ blockOf 4 (predNxN 4 mode above left p)) ⌝ }
 {
     if mode == 2 {
-        fill(dc_of(4, &e, above, left), 16, out);
+        let v = dc_of(4, &e, above, left);
+        fill(v, 16, out);
         return;
     }
     let t = with_means(4, mode, e);
@@ -310,7 +311,8 @@ fn slant8(mode: u8, e: &[u8; 81], out: &mut [u8])
     slide(&line, 0, &line, 2, 4, 0, out);
 }
 
-// Eight rows, each a window of a line: row 2z of `even` from `a` on and row 2z + 1 of `odd` from `b` on, for every z `up` further or `back` less far.
+// Eight rows, each a window of a line: row 2z is of `even` and row 2z + 1 of `odd`. The first two start at a and b, and each two after them `up` places
+// further on or `back` places back.
 fn slide(
     even: &[u8; 32],
     a: usize,
@@ -356,7 +358,7 @@ fn beside8(e: &[u8; 81], out: &mut [u8])
     }
 }
 
-// The lines of the modes from 5 on. Vertical right: below the corner every other mean of three from `first` on, then the means of the row.
+// The line of vertical right, for its even or its odd rows: every other mean of three along the left side, then the means along the row above.
 fn steep(three: &[u8; 32], first: usize, rest: &[u8; 32]) -> [u8; 32]
     requires { ⌜ first ≤ 4 ⌝ }
     ensures { λ r. ⌜ r ≡ onto 11 (λ j. cond (ltb j 3) (getD (now (three .entry)) (first + 2 * j) 0) (getD (now (rest .entry)) (6 + j) 0)) (replicate 32 0) ⌝ }
@@ -371,7 +373,7 @@ fn steep(three: &[u8; 32], first: usize, rest: &[u8; 32]) -> [u8; 32]
     line
 }
 
-// Horizontal down: the means of two and of three in turn up to the corner, then those of three alone.
+// The line of horizontal down: the means of two and of three in turn up the left side, then those of three along the row above.
 fn flat_down(three: &[u8; 32], two: &[u8; 32]) -> [u8; 32]
     ensures { λ r. ⌜ r ≡ onto 22 (pairs 16 (λ i. getD (now (two .entry)) (1 + i) 0) (λ i. getD (now (three .entry)) (2 + i) 0) (λ j. getD (now (three .entry)) (j - 6) 0)) (replicate 32 0) ⌝ }
 {
@@ -386,7 +388,7 @@ fn flat_down(three: &[u8; 32], two: &[u8; 32]) -> [u8; 32]
     line
 }
 
-// Horizontal up: the means of two and of three in turn down to the last sample, then that one.
+// The line of horizontal up: the means of two and of three in turn down the left side, then its last sample.
 fn flat_up(three: &[u8; 32], two: &[u8; 32], last: u8) -> [u8; 32]
     ensures { λ r. ⌜ r ≡ onto 22 (pairs 14 (λ i. getD (now (two .entry)) (7 - i) 0) (λ i. getD (now (three .entry)) (7 - i) 0) (λ _. last)) (replicate 32 0) ⌝ }
 {
