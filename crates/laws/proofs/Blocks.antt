@@ -29,10 +29,6 @@ module _ {n : ℕ} {g : ℕ → ℕ → ℕ} where
         so = filled-more 0 (λ i. g (i % n) (i / n)) (n * n) (y * n + x) out v (omega (arith, suc-mul y n)) (b .so) (e ∙ sym (ap₂ g column row));
       })
 
-  -- the same by a sample's place in the block
-  pub block-next : (k : ℕ) {v : ℕ} {out : List ℕ} → k < n * n → v ≡ g (k % n) (k / n) → Block n g k out → Block n g (k + 1) (set out k v)
-  block-next k {v} {out} h e b = record { so = filled-more 0 (λ i. g (i % n) (i / n)) (n * n) k out v h (b .so) e }
-
   pub block-all : {out : List ℕ} (k : ℕ) → n * n ≤ k → Block n g k out → out ≡ blockOf n g
   block-all {out} k h b = filled-all 0 (λ i. g (i % n) (i / n)) (n * n) k out h (b .so)
 

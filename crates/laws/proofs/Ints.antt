@@ -9,14 +9,13 @@
 -- Assumes nothing.
 use mathlib.Core.Path.{_≡_, refl, sym, ap, _∙_, subst}
 use mathlib.Core.Bool.{Bool, true, false, not, cond}
-use mathlib.Core.List.{List, [], _∷_, map}
+use mathlib.Core.List.{List, [], _∷_}
 use Prim.Native.Nat.{ℕ, zero, suc, _+_, _-_, _*_, _/_, _≤_, _<_, min}
 use native.Mathlib.Nat.{div-le-self, div-add-mod', mod-lt, zero-div, mul-le-mul, le-trans, le-refl}
 use native.Mathlib.Omega.{arith}
 use borrow.Author.Tests.{ltb-true, ltb-false}
 use lib.Dec.{T, ltb, leb, ltb→lt, nltb→le, leb→le}
-use lib.IntN.{ℤ, pos, negsuc, natAbs, negℤ, subℕ, _+ℤ_, _-ℤ_, _*ℤ_}
-use lib.ListN.{getD, replicate}
+use lib.IntN.{ℤ, pos, negsuc, natAbs, negℤ, subℕ, _+ℤ_, _*ℤ_}
 use lib.Signed.{shrZ, ltZ, nonNeg}
 use mir.Syntax.{w8, w32}
 use mir.Val.{SFits, Fits, toZ, ofZ}
@@ -95,12 +94,6 @@ ge-parts (pos a) (negsuc b) e = omega arith
 ge-parts (negsuc a) (pos b) e = absurd (subst T e tt)
 ge-parts (negsuc a) (negsuc b) e = omega (arith, ltb-false b a e)
 
-example-eq : (x y : ℤ) → (x -ℤ y) +ℤ y ≡ x
-example-eq x y = omega (arith, eq-parts, parts-add (x -ℤ y) y, parts-add x (negℤ y), parts-neg y)
-
-example-lt : (x y : ℤ) → ltZ x y ≡ true → ltZ (y +ℤ pos 3) (x +ℤ pos 3) ≡ true → ⊥
-example-lt x y h g = omega (arith, lt-parts, parts-add x (pos 3), parts-add y (pos 3), parts-pos 3)
-
 -- ---- ints: bounds
 pub within-fits : {z : ℤ} → Within 2147483647 z → SFits w32 z
 within-fits {z = pos n} h = record { sfits = omega (arith, h .within) }
@@ -173,11 +166,6 @@ shr-is k a x e = ap (λ (z : ℤ). shrZ z k) e
 pub ruleset ints = (tt, within-fits, within-add, within-neg, within-mul, within-mul-lit, within-mul-back, within-shr, within-lit, within-back, within-more, within-at, back-is, add-is, neg-is, mul-is, shr-is)
 
 -- ---- lists
--- numbers that are read out of an array one by one
-pub backs : (k : ℕ) (l : List ℤ) → AllWithin k l → T (leb k 2147483647) → map (λ z. toZ w32 (ofZ w32 z)) l ≡ l
-backs k [] a t = refl
-backs k (z ∷ l) a t = rw (back k (a .each 0) t, backs k l (record { each = λ n. a .each (suc n) }) t)
-
 table-at : (k n : ℕ) (f : ℕ → ℤ) → ((i : ℕ) → Within k (f i)) → (m : ℕ) → Within k (at (table n f) m)
 unfolding table
 table-at k zero f h m = record { within = omega arith }
@@ -186,22 +174,6 @@ table-at k (suc n) f h (suc m) = table-at k n (λ i. f (suc i)) (λ i. h (suc i)
 
 pub within-table : (k n : ℕ) (f : ℕ → ℤ) → ((i : ℕ) → Within k (f i)) → AllWithin k (table n f)
 within-table k n f h = record { each = table-at k n f h }
-
-replicate-at : (k n : ℕ) (z : ℤ) → Within k z → (m : ℕ) → Within k (at (replicate n z) m)
-replicate-at k zero z h m = record { within = omega arith }
-replicate-at k (suc n) z h zero = h
-replicate-at k (suc n) z h (suc m) = replicate-at k n z h m
-
-pub within-replicate : (k n : ℕ) (z : ℤ) → Within k z → AllWithin k (replicate n z)
-within-replicate k n z h = record { each = replicate-at k n z h }
-
--- one of four lists
-pub within-four : (k : ℕ) (a b c d : List ℤ) → AllWithin k a → AllWithin k b → AllWithin k c → AllWithin k d → (x : ℕ) → AllWithin k (getD (a ∷ b ∷ c ∷ d ∷ []) x [])
-within-four k a b c d p q r s zero = p
-within-four k a b c d p q r s (suc zero) = q
-within-four k a b c d p q r s (suc (suc zero)) = r
-within-four k a b c d p q r s (suc (suc (suc zero))) = s
-within-four k a b c d p q r s (suc (suc (suc (suc x)))) = record { each = λ n. record { within = omega arith } }
 
 -- a list of four numbers, for a function that returns an array of four
 pub four-is : {a b c d x y z w : ℤ} → a ≡ x → b ≡ y → c ≡ z → d ≡ w → (a ∷ b ∷ c ∷ d ∷ []) ≡ (x ∷ y ∷ z ∷ w ∷ [])

@@ -86,19 +86,6 @@ front-more f c v l l′ h e g =
 pub length-front : (f : ℕ → ℕ) (c : ℕ) (l l′ : List ℕ) → l′ ≡ front f c l → length l′ ≡ length l
 length-front f c l l′ e = ap length e ∙ length-patch (λ i. ltb i c) f l
 
--- the front of a list copied from another one, from `at` on
-abbrev pub rowed : (px : List ℕ) (at c : ℕ) → List ℕ → List ℕ
-rowed px at c l = front (λ i. getD px (at + i) 0) c l
-
-pub rowed-none : (px : List ℕ) (at : ℕ) (l : List ℕ) → l ≡ rowed px at 0 l
-rowed-none px at l = front-none (λ i. getD px (at + i) 0) l
-
-pub rowed-more : (px : List ℕ) (at c : ℕ) (l l′ : List ℕ) → c < length l → l′ ≡ rowed px at c l → set l′ c (getD px (at + c) 0) ≡ rowed px at (c + 1) l
-rowed-more px at c l l′ h e = front-more (λ i. getD px (at + i) 0) c (getD px (at + c) 0) l l′ h refl e
-
-pub length-rowed : (px : List ℕ) (at c : ℕ) (l l′ : List ℕ) → l′ ≡ rowed px at c l → length l′ ≡ length l
-length-rowed px at c l l′ e = length-front (λ i. getD px (at + i) 0) c l l′ e
-
 -- a patch over a patch
 pub patch-grow : (t₁ t₂ t₃ : ℕ → Bool) (f f₂ : ℕ → ℕ) (l : List ℕ) → ((i : ℕ) → t₂ i ≡ true → (t₃ i ≡ true) × (f₂ i ≡ f i)) → ((i : ℕ) → t₂ i ≡ false → t₁ i ≡ t₃ i)
     → patch t₂ f₂ (patch t₁ f l) ≡ patch t₃ f l
