@@ -10,7 +10,7 @@ ghost use Rattle.laws.specs.Table.{blockOf, onto};
 ghost use Rattle.samples.specs.Near.{Near, near, dc};
 ghost use Rattle.samples.specs.IntraNxN.{mean2, mean3, predNxN, pred4x4L, pred8x8L, filtered};
 ghost use Rattle.samples.specs.Marks.{permittedNxN, modeAnswer};
-ghost use Rattle.samples.specs.inner.Run.{Run, Means, Filtered, Placed, slid, pairs};
+ghost use Rattle.samples.specs.inner.Run.{Run, Means, Filtered, Placed, slid, around, between, pairs};
 use super::line::down;
 use super::line::fill;
 use super::marks::mode_answer;
@@ -282,32 +282,33 @@ fn slant8(mode: u8, e: &[u8; 81], out: &mut [u8])
     requires { ⌜ (3 ≤ mode) × (mode ≤ 8) × (length (now out) ≡ 64) ⌝ }
     ensures { λ _. ⌜ ((p : Near) (above left : Bool) → Run 8 p (now (e .entry)) → now (out .exit) ≡ blockOf 8 (predNxN 8 mode above left p)) ⌝ }
 {
-    let three = threes(e);
-    if mode < 4 {
-        slide(&three, 11, &three, 12, 2, 0, out);
-        return;
-    }
     if mode < 5 {
-        slide(&three, 9, &three, 8, 0, 2, out);
+        let line = threes(e);
+        if mode < 4 {
+            slide(&line, 11, &line, 12, 2, 0, out);
+            return;
+        }
+        slide(&line, 9, &line, 8, 0, 2, out);
         return;
     }
-    let two = twos(e);
     if mode < 6 {
-        let even = steep(&three, 4, &two);
-        let odd = steep(&three, 3, &three);
+        let even = right_even(e);
+        let odd = right_odd(e);
         slide(&even, 3, &odd, 3, 0, 1, out);
         return;
     }
     if mode < 7 {
-        let line = flat_down(&three, &two);
+        let line = down_line(e);
         slide(&line, 14, &line, 12, 0, 4, out);
         return;
     }
     if mode < 8 {
-        slide(&two, 10, &three, 11, 1, 0, out);
+        let even = left_even(e);
+        let odd = left_odd(e);
+        slide(&even, 0, &odd, 0, 1, 0, out);
         return;
     }
-    let line = flat_up(&three, &two, e[55]);
+    let line = up_line(e);
     slide(&line, 0, &line, 2, 4, 0, out);
 }
 
@@ -358,70 +359,109 @@ fn beside8(e: &[u8; 81], out: &mut [u8])
     }
 }
 
-// The line of vertical right, for its even or its odd rows: every other mean of three along the left side, then the means along the row above.
-fn steep(three: &[u8; 32], first: usize, rest: &[u8; 32]) -> [u8; 32]
-    requires { ⌜ first ≤ 4 ⌝ }
-    ensures { λ r. ⌜ r ≡ onto 11 (λ j. cond (ltb j 3) (getD (now (three .entry)) (first + 2 * j) 0) (getD (now (rest .entry)) (6 + j) 0)) (replicate 32 0) ⌝ }
+// The lines of the modes from 3 on. Each mode makes its own, so that the compiled code takes no mean that the mode does not show. The diagonals: the
+// means of three all along the run.
+fn threes(e: &[u8; 81]) -> [u8; 32]
+    ensures { λ r. ⌜ r ≡ onto 26 (around (now (e .entry))) (replicate 32 0) ⌝ }
+{
+    let mut line = [0u8; 32];
+    for k in 0..26 {
+        line[k] = around(e, k);
+    }
+    line
+}
+
+// Vertical right: every other mean of three along the left side, then along the row above the means of two in even rows and of three in odd ones.
+fn right_even(e: &[u8; 81]) -> [u8; 32]
+    ensures { λ r. ⌜ r ≡ onto 11 (λ j. cond (ltb j 3) (around (now (e .entry)) (4 + 2 * j)) (between (now (e .entry)) (6 + j))) (replicate 32 0) ⌝ }
 {
     let mut line = [0u8; 32];
     for j in 0..3 {
-        line[j] = three[first + 2 * j];
+        line[j] = around(e, 4 + 2 * j);
     }
     for j in 3..11 {
-        line[j] = rest[6 + j];
+        line[j] = between(e, 6 + j);
     }
     line
 }
 
-// The line of horizontal down: the means of two and of three in turn up the left side, then those of three along the row above.
-fn flat_down(three: &[u8; 32], two: &[u8; 32]) -> [u8; 32]
-    ensures { λ r. ⌜ r ≡ onto 22 (pairs 16 (λ i. getD (now (two .entry)) (1 + i) 0) (λ i. getD (now (three .entry)) (2 + i) 0) (λ j. getD (now (three .entry)) (j - 6) 0)) (replicate 32 0) ⌝ }
+fn right_odd(e: &[u8; 81]) -> [u8; 32]
+    ensures { λ r. ⌜ r ≡ onto 11 (λ j. cond (ltb j 3) (around (now (e .entry)) (3 + 2 * j)) (around (now (e .entry)) (6 + j))) (replicate 32 0) ⌝ }
+{
+    let mut line = [0u8; 32];
+    for j in 0..3 {
+        line[j] = around(e, 3 + 2 * j);
+    }
+    for j in 3..11 {
+        line[j] = around(e, 6 + j);
+    }
+    line
+}
+
+// Horizontal down: the means of two and of three in turn up the left side, then those of three along the row above.
+fn down_line(e: &[u8; 81]) -> [u8; 32]
+    ensures { λ r. ⌜ r ≡ onto 22 (pairs 16 (λ i. between (now (e .entry)) (1 + i)) (λ i. around (now (e .entry)) (2 + i)) (λ j. around (now (e .entry)) (j - 6))) (replicate 32 0) ⌝ }
 {
     let mut line = [0u8; 32];
     for i in 0..8 {
-        line[2 * i] = two[1 + i];
-        line[2 * i + 1] = three[2 + i];
+        line[2 * i] = between(e, 1 + i);
+        line[2 * i + 1] = around(e, 2 + i);
     }
     for j in 16..22 {
-        line[j] = three[j - 6];
+        line[j] = around(e, j - 6);
     }
     line
 }
 
-// The line of horizontal up: the means of two and of three in turn down the left side, then its last sample.
-fn flat_up(three: &[u8; 32], two: &[u8; 32], last: u8) -> [u8; 32]
-    ensures { λ r. ⌜ r ≡ onto 22 (pairs 14 (λ i. getD (now (two .entry)) (7 - i) 0) (λ i. getD (now (three .entry)) (7 - i) 0) (λ _. last)) (replicate 32 0) ⌝ }
+// Vertical left: along the row above the means of two in even rows and of three in odd ones.
+fn left_even(e: &[u8; 81]) -> [u8; 32]
+    ensures { λ r. ⌜ r ≡ onto 11 (λ k. between (now (e .entry)) (10 + k)) (replicate 32 0) ⌝ }
+{
+    let mut line = [0u8; 32];
+    for k in 0..11 {
+        line[k] = between(e, 10 + k);
+    }
+    line
+}
+
+fn left_odd(e: &[u8; 81]) -> [u8; 32]
+    ensures { λ r. ⌜ r ≡ onto 11 (λ k. around (now (e .entry)) (11 + k)) (replicate 32 0) ⌝ }
+{
+    let mut line = [0u8; 32];
+    for k in 0..11 {
+        line[k] = around(e, 11 + k);
+    }
+    line
+}
+
+// Horizontal up: the means of two and of three in turn down the left side, then its last sample.
+fn up_line(e: &[u8; 81]) -> [u8; 32]
+    ensures { λ r. ⌜ r ≡ onto 22 (pairs 14 (λ i. between (now (e .entry)) (7 - i)) (λ i. around (now (e .entry)) (7 - i)) (λ _. getD (now (e .entry)) 55 0)) (replicate 32 0) ⌝ }
 {
     let mut line = [0u8; 32];
     for i in 0..7 {
-        line[2 * i] = two[7 - i];
-        line[2 * i + 1] = three[7 - i];
+        line[2 * i] = between(e, 7 - i);
+        line[2 * i + 1] = around(e, 7 - i);
     }
     for j in 14..22 {
-        line[j] = last;
+        line[j] = e[55];
     }
     line
 }
 
-// The means of the run in lines of their own: of three around place 54 + k, and of two from there on.
-fn threes(e: &[u8; 81]) -> [u8; 32]
-    ensures { λ r. ⌜ r ≡ onto 26 (λ k. mean3 (getD (now (e .entry)) (53 + k) 0) (getD (now (e .entry)) (54 + k) 0) (getD (now (e .entry)) (55 + k) 0)) (replicate 32 0) ⌝ }
+// The mean of three around place 54 + k of the run, and that of two from there on.
+fn around(e: &[u8; 81], k: usize) -> u8
+    requires { ⌜ k < 26 ⌝ }
+    ensures { λ r. ⌜ r ≡ around (now (e .entry)) k ⌝ }
 {
-    let mut t = [0u8; 32];
-    for k in 0..26 {
-        t[k] = mean3(e[53 + k], e[54 + k], e[55 + k]);
-    }
-    t
+    mean3(e[53 + k], e[54 + k], e[55 + k])
 }
 
-fn twos(e: &[u8; 81]) -> [u8; 32]
-    ensures { λ r. ⌜ r ≡ onto 26 (λ k. mean2 (getD (now (e .entry)) (54 + k) 0) (getD (now (e .entry)) (55 + k) 0)) (replicate 32 0) ⌝ }
+fn between(e: &[u8; 81], k: usize) -> u8
+    requires { ⌜ k < 26 ⌝ }
+    ensures { λ r. ⌜ r ≡ between (now (e .entry)) k ⌝ }
 {
-    let mut t = [0u8; 32];
-    for k in 0..26 {
-        t[k] = mean2(e[54 + k], e[55 + k]);
-    }
-    t
+    mean2(e[54 + k], e[55 + k])
 }
 
 // The rounded means of two and of three samples.

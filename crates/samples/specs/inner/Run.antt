@@ -48,6 +48,13 @@ pub record Placed (mode n x y i : ℕ) : Type 0 where
 abbrev pub slid : List ℕ → ℕ → List ℕ → ℕ → ℕ → ℕ → ℕ → ℕ → ℕ
 slid even a odd b up back x y = cond (eqb (y % 2) 0) (getD even (a + up * (y / 2) - back * (y / 2) + x) 0) (getD odd (b + up * (y / 2) - back * (y / 2) + x) 0)
 
+-- the mean of three around place 54 + k of a run, and that of two from there on
+abbrev pub around : List ℕ → ℕ → ℕ
+around e k = mean3 (getD e (53 + k) 0) (getD e (54 + k) 0) (getD e (55 + k) 0)
+
+abbrev pub between : List ℕ → ℕ → ℕ
+between e k = mean2 (getD e (54 + k) 0) (getD e (55 + k) 0)
+
 -- a line that takes from two rules in turn, f 0, g 0, f 1, g 1, .., up to place m, and from then on from h
 abbrev pub pairs : ℕ → (ℕ → ℕ) → (ℕ → ℕ) → (ℕ → ℕ) → ℕ → ℕ
 pairs m f g h j = cond (ltb j m) (cond (eqb (j % 2) 0) (f (j / 2)) (g (j / 2))) (h j)

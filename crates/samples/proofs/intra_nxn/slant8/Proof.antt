@@ -1,5 +1,5 @@
 -- `samples::intra_nxn::slant8` meets its contract: the windows of each mode's lines are the mode's rows. Assumes nothing.
-use mathlib.Core.Path.{_≡_, refl}
+use mathlib.Core.Path.{_≡_}
 use native.Mathlib.Omega.{arith}
 use denote.Ref.{now}
 use Rattle.samples.specs.IntraNxN.{predNxN}
@@ -13,79 +13,73 @@ returns : tie.Need-returns
 unfolding predNxN
 returns c p a l run =
     let d = c .before .before in
-    let t = d .before .before .before .before .before in
-    let z = t .before .before in
+    let b = d .before .before .before .before in
+    let t = b .before in
+    let z = t .before .before .before in
     let r = t .threes .result in
-    let h : z .args .mode ≡ 3 = omega (arith, z .pre .0, d .before .before .before .before .if1 .taken) in
+    let h : z .args .mode ≡ 3 = omega (arith, z .pre .0, b .if2 .taken) in
     rows-are 8 (λ x y. slid r 11 r 12 2 0 x y) (predNxN 8 (z .args .mode) a l p) (now (z .args .out)) (z .pre .2) (d .slide .ensures)
-    (λ x y hx hy. rw h (is-downLeft p (now (z .args .e)) r _ run (t .threes .ensures) refl x y hx hy))
+    (λ x y hx hy. rw h (is-downLeft p (now (z .args .e)) run x y hx hy r (t .threes .ensures)))
 
 returns-2 : tie.Need-returns-2
 unfolding predNxN
 returns-2 c p a l run =
     let d = c .before .before in
     let b = d .before .before .before .before in
-    let t = b .before .before in
-    let z = t .before .before in
+    let t = b .before in
+    let z = t .before .before .before in
     let r = t .threes .result in
-    let h : z .args .mode ≡ 4 = omega (arith, b .before .if1 .left, b .if2 .taken) in
+    let h : z .args .mode ≡ 4 = omega (arith, t .before .if1 .taken, b .if2 .left) in
     rows-are 8 (λ x y. slid r 9 r 8 0 2 x y) (predNxN 8 (z .args .mode) a l p) (now (z .args .out)) (z .pre .2) (d .slide2 .ensures)
-    (λ x y hx hy. rw h (is-downRight p (now (z .args .e)) r _ run (t .threes .ensures) refl x y hx hy))
+    (λ x y hx hy. rw h (is-downRight p (now (z .args .e)) run x y hx hy r (t .threes .ensures)))
 
 returns-3 : tie.Need-returns-3
 unfolding predNxN
 returns-3 c p a l run =
     let d = c .before .before in
-    let s₂ = d .before .before .before .before in
-    let s₁ = s₂ .before .before .before in
-    let b = s₁ .before .before .before in
-    let w = b .before in
-    let t = w .before .before .before in
-    let z = t .before .before in
-    let h : z .args .mode ≡ 5 = omega (arith, w .before .if2 .left, b .if3 .taken) in
-    rows-are 8 (λ x y. slid (s₁ .steep .result) 3 (s₂ .steep2 .result) 3 0 1 x y) (predNxN 8 (z .args .mode) a l p) (now (z .args .out)) (z .pre .2) (d .slide3 .ensures)
-    (λ x y hx hy. rw h (is-verticalRight p (now (z .args .e)) (t .threes .result) (w .twos .result) run (t .threes .ensures) (w .twos .ensures) x y hx hy
-    (s₁ .steep .ensures) (s₂ .steep2 .ensures)))
+    let o = d .before .before .before .before in
+    let v = o .before in
+    let b = v .before in
+    let z = b .before .before .before in
+    let h : z .args .mode ≡ 5 = omega (arith, b .before .if1 .left, b .if3 .taken) in
+    rows-are 8 (λ x y. slid (v .right-even .result) 3 (o .right-odd .result) 3 0 1 x y) (predNxN 8 (z .args .mode) a l p) (now (z .args .out)) (z .pre .2) (d .slide3 .ensures)
+    (λ x y hx hy. rw h (is-verticalRight p (now (z .args .e)) run x y hx hy (v .right-even .ensures) (o .right-odd .ensures)))
 
 returns-4 : tie.Need-returns-4
 unfolding predNxN
 returns-4 c p a l run =
     let d = c .before .before in
     let f = d .before .before .before .before in
-    let b = f .before .before .before in
-    let w = b .before .before in
-    let t = w .before .before .before in
-    let z = t .before .before in
-    let r = f .flat-down .result in
+    let b = f .before in
+    let z = b .before .before .before .before in
+    let r = f .down-line .result in
     let h : z .args .mode ≡ 6 = omega (arith, b .before .if3 .left, b .if4 .taken) in
     rows-are 8 (λ x y. slid r 14 r 12 0 4 x y) (predNxN 8 (z .args .mode) a l p) (now (z .args .out)) (z .pre .2) (d .slide4 .ensures)
-    (λ x y hx hy. rw h (is-horizontalDown p (now (z .args .e)) (t .threes .result) (w .twos .result) run (t .threes .ensures) (w .twos .ensures) x y hx hy (f .flat-down .ensures)))
+    (λ x y hx hy. rw h (is-horizontalDown p (now (z .args .e)) run x y hx hy (f .down-line .ensures)))
 
 returns-5 : tie.Need-returns-5
 unfolding predNxN
 returns-5 c p a l run =
     let d = c .before .before in
-    let b = d .before .before .before .before in
-    let w = b .before .before .before in
-    let t = w .before .before .before in
-    let z = t .before .before in
+    let o = d .before .before .before .before in
+    let v = o .before in
+    let b = v .before in
+    let z = b .before .before .before .before .before in
     let h : z .args .mode ≡ 7 = omega (arith, b .before .if4 .left, b .if5 .taken) in
-    rows-are 8 (λ x y. slid (w .twos .result) 10 (t .threes .result) 11 1 0 x y) (predNxN 8 (z .args .mode) a l p) (now (z .args .out)) (z .pre .2) (d .slide5 .ensures)
-    (λ x y hx hy. rw h (is-verticalLeft p (now (z .args .e)) (t .threes .result) (w .twos .result) run (t .threes .ensures) (w .twos .ensures) x y hx hy))
+    rows-are 8 (λ x y. slid (v .left-even .result) 0 (o .left-odd .result) 0 1 0 x y) (predNxN 8 (z .args .mode) a l p) (now (z .args .out)) (z .pre .2) (d .slide5 .ensures)
+    (λ x y hx hy. rw h (is-verticalLeft p (now (z .args .e)) run x y hx hy (v .left-even .ensures) (o .left-odd .ensures)))
 
 returns-6 : tie.Need-returns-6
 unfolding predNxN
 returns-6 c p a l run =
     let d = c .before .before in
     let f = d .before .before .before .before in
-    let b = f .before .before .before .before in
-    let w = b .before .before .before in
-    let t = w .before .before .before in
-    let z = t .before .before in
-    let r = f .flat-up .result in
+    let b = f .before in
+    let z = b .before .before .before .before .before in
+    let r = f .up-line .result in
     let h : z .args .mode ≡ 8 = omega (arith, z .pre .1, b .if5 .left) in
     rows-are 8 (λ x y. slid r 0 r 2 4 0 x y) (predNxN 8 (z .args .mode) a l p) (now (z .args .out)) (z .pre .2) (d .slide6 .ensures)
-    (λ x y hx hy. rw h (is-horizontalUp p (now (z .args .e)) (t .threes .result) (w .twos .result) run (t .threes .ensures) (w .twos .ensures) x y hx hy (f .flat-up .ensures) refl))
+    (λ x y hx hy. rw h (is-horizontalUp p (now (z .args .e)) run x y hx hy (f .up-line .ensures)))
 
 pub slant8-spec : {M : Type 1} → statement M
 slant8-spec =
@@ -101,7 +95,6 @@ slant8-spec =
     (λ c κs. search needs)
     (λ c κs. search needs)
     (λ c κs. search needs)
-    (λ c κs. search needs)
     (λ c. search needs)
     returns-3
     (λ c κs. search needs)
@@ -109,9 +102,10 @@ slant8-spec =
     (λ c. search needs)
     returns-4
     (λ c κs. search needs)
+    (λ c κs. search needs)
+    (λ c κs. search needs)
     (λ c. search needs)
     returns-5
-    (λ c. search needs)
     (λ c κs. search needs)
     (λ c κs. search needs)
     (λ c. search needs)

@@ -1,4 +1,4 @@
--- `samples::intra_nxn::steep` meets its contract. Both loops put the line place by place. Assumes nothing.
+-- `samples::intra_nxn::right_even` meets its contract. Both loops put the line place by place. Assumes nothing.
 use mathlib.Core.Path.{_≡_, refl}
 use mathlib.Core.Bool.{cond}
 use mathlib.Core.List.{List}
@@ -6,27 +6,28 @@ use Prim.Native.Nat.{ℕ, _+_, _*_, _-_, _≤_}
 use native.Mathlib.Omega.{arith}
 use borrow.Author.Tests.{lt-ltb, le-ltb}
 use lib.Dec.{ltb}
-use lib.ListN.{length, getD, replicate, length-set}
+use lib.ListN.{length, replicate, length-set}
 use Rattle.laws.specs.Table.{onto}
 use Rattle.laws.proofs.Ontos.{onto-none, onto-more}
+use Rattle.samples.specs.inner.Run.{around, between}
 use borrow.Author.Needs.{needs}
-use Rattle.samples.proofs.intra_nxn.steep.Statement.{statement}
-use Rattle.samples.proofs.intra_nxn.steep.Tie as tie
+use Rattle.samples.proofs.intra_nxn.right_even.Statement.{statement}
+use Rattle.samples.proofs.intra_nxn.right_even.Tie as tie
 
-abbrev put : List ℕ → ℕ → List ℕ → ℕ → ℕ
-put three first rest j = cond (ltb j 3) (getD three (first + 2 * j) 0) (getD rest (6 + j) 0)
+abbrev put : List ℕ → ℕ → ℕ
+put e j = cond (ltb j 3) (around e (4 + 2 * j)) (between e (6 + j))
 
 abbrev Inv-loop : tie.InvT-loop
-Inv-loop three first rest line₀ j₀ line j = (j ≤ 3) × (length line ≡ 32) × (line ≡ onto j (put three first rest) (replicate 32 0))
+Inv-loop e line₀ j₀ line j = (j ≤ 3) × (length line ≡ 32) × (line ≡ onto j (put e) (replicate 32 0))
 
 abbrev μ-loop : tie.MeasureT-loop
-μ-loop three first rest line₀ j₀ line j = 3 - j
+μ-loop e line₀ j₀ line j = 3 - j
 
 abbrev Inv-loop2 : tie.InvT-loop2
-Inv-loop2 three first rest line₀ j₀ line j = (3 ≤ j) × (j ≤ 11) × (length line ≡ 32) × (line ≡ onto j (put three first rest) (replicate 32 0))
+Inv-loop2 e line₀ j₀ line j = (3 ≤ j) × (j ≤ 11) × (length line ≡ 32) × (line ≡ onto j (put e) (replicate 32 0))
 
 abbrev μ-loop2 : tie.MeasureT-loop2
-μ-loop2 three first rest line₀ j₀ line j = 11 - j
+μ-loop2 e line₀ j₀ line j = 11 - j
 
 loop-holds : tie.Need-loop-holds Inv-loop μ-loop Inv-loop2 μ-loop2
 loop-holds c = (omega arith, refl, onto-none _ _)
@@ -34,7 +35,7 @@ loop-holds c = (omega arith, refl, onto-none _ _)
 loop-again : tie.Need-loop-again Inv-loop μ-loop Inv-loop2 μ-loop2
 loop-again c =
     let l = c .before .before .loop in
-    (omega arith, simp length-set (omega arith), onto-more (l .j) _ (replicate 32 0) (l .line) (omega arith) (l .inv .2) (rw (lt-ltb (l .j) 3 (omega arith))))
+    (omega arith, simp length-set (omega arith), onto-more (l .j) _ (replicate 32 0) (l .line) (omega arith) (l .inv .2) (rw (lt-ltb (l .j) 3 (omega arith)) (c .around .ensures)))
 
 loop2-holds : tie.Need-loop2-holds Inv-loop μ-loop Inv-loop2 μ-loop2
 loop2-holds c =
@@ -45,15 +46,15 @@ loop2-holds c =
 loop2-again : tie.Need-loop2-again Inv-loop μ-loop Inv-loop2 μ-loop2
 loop2-again c =
     let l = c .before .before .loop2 in
-    (omega arith, omega arith, simp length-set (omega arith), onto-more (l .j) _ (replicate 32 0) (l .line) (omega arith) (l .inv .3) (rw (le-ltb (l .j) 3 (omega arith))))
+    (omega arith, omega arith, simp length-set (omega arith), onto-more (l .j) _ (replicate 32 0) (l .line) (omega arith) (l .inv .3) (rw (le-ltb (l .j) 3 (omega arith)) (c .between .ensures)))
 
 returns : tie.Need-returns Inv-loop μ-loop Inv-loop2 μ-loop2
 returns c =
     let e : c .before .loop2 .j ≡ 11 = omega arith in
     rw e at (c .before .loop2 .inv .3)
 
-pub steep-spec : {M : Type 1} → statement M
-steep-spec =
+pub right-even-spec : {M : Type 1} → statement M
+right-even-spec =
     tie.close
     (tie.spec
     Inv-loop
@@ -63,14 +64,14 @@ steep-spec =
     loop-holds
     (λ c. search needs)
     (λ c. search needs)
-    (λ c. search needs)
+    (λ c κs. search needs)
     (λ c. search needs)
     (λ c. search needs)
     (λ c. search needs)
     loop-again
     loop2-holds
     (λ c. search needs)
-    (λ c. search needs)
+    (λ c κs. search needs)
     (λ c. search needs)
     (λ c. search needs)
     (λ c. search needs)
