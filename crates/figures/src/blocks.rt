@@ -6,7 +6,7 @@ fn put(p_off: usize, p_stride: usize, r_off: usize, r_stride: usize) -> u32 {
     let deq = [0i32; 16];
     let pred = [0u8; 12292];
     let mut rec = [0u8; 12292];
-    samples::reconstruct::reconstruct_4x4_into(
+    residual::reconstruct::reconstruct_4x4_into(
         &deq,
         &pred,
         p_off,
@@ -65,27 +65,27 @@ pub(crate) fn places() {
 fn coefficient(v: i32) -> u32 {
     let mut deq = [0i32; 16];
     deq[15] = v;
-    samples::inverse::inverse_4x4(&deq).answer
+    residual::inverse::inverse_4x4(&deq).answer
 }
 
 fn residual(v: i32) -> u32 {
     let mut res = [0i32; 64];
     res[63] = v;
     let pred = [0i32; 64];
-    samples::reconstruct::add_residual_8x8(&res, &pred).answer
+    residual::reconstruct::add_residual_8x8(&res, &pred).answer
 }
 
 fn prediction(v: i32) -> u32 {
     let res = [0i32; 16];
     let mut pred = [0i32; 16];
     pred[0] = v;
-    samples::reconstruct::add_residual_4x4(&res, &pred).answer
+    residual::reconstruct::add_residual_4x4(&res, &pred).answer
 }
 
 fn flat(v: i32) -> u32 {
     let pred = [0u8; 16];
     let mut rec = [0u8; 16];
-    samples::reconstruct::reconstruct_4x4_dc_into(v, &pred, 0, 4, &mut rec, 0, 4)
+    residual::reconstruct::reconstruct_4x4_dc_into(v, &pred, 0, 4, &mut rec, 0, 4)
 }
 
 pub(crate) fn numbers() {

@@ -4,9 +4,9 @@ ghost use mathlib.Core.Bool.{cond, _&&_};
 ghost use mathlib.Core.List.{[], _∷_};
 ghost use lib.ListN.{length, replicate};
 ghost use Rattle.laws.specs.Answer.{_unless_, answer, written};
-ghost use Rattle.samples.specs.Inverse.{inverse4x4};
-ghost use Rattle.samples.specs.Numbers.{inRange, allInRange};
-ghost use Rattle.samples.specs.Reconstruct.{sums, putSquare, sumIn, intoAnswer};
+ghost use Rattle.residual.specs.Inverse.{inverse4x4};
+ghost use Rattle.residual.specs.Numbers.{inRange, allInRange};
+ghost use Rattle.residual.specs.Reconstruct.{sums, putSquare, sumIn, intoAnswer};
 ghost use Rattle.jiwarbend.specs.Exports.{_has_};
 
 #[no_mangle]
@@ -21,7 +21,7 @@ pub extern "C" fn jiwarbend_inverse_4x4(deq: &[i32], out: &mut [i32]) -> u32
         return 2;
     }
     let d = crate::lists::numbers16(deq);
-    let r = samples::inverse::inverse_4x4(&d);
+    let r = residual::inverse::inverse_4x4(&d);
     let block = r.block;
     crate::lists::leave_numbers(out, r.answer, &block);
     r.answer
@@ -43,7 +43,7 @@ pub extern "C" fn jiwarbend_reconstruct_4x4(deq: &[i32], pred: &[i32], out: &mut
     }
     let a = crate::lists::numbers16(deq);
     let p = crate::lists::numbers16(pred);
-    let r = samples::reconstruct::reconstruct_4x4(&a, &p);
+    let r = residual::reconstruct::reconstruct_4x4(&a, &p);
     let block = r.block;
     crate::lists::leave(out, r.answer, &block);
     r.answer
@@ -65,7 +65,7 @@ pub extern "C" fn jiwarbend_add_residual_4x4(res: &[i32], pred: &[i32], out: &mu
     }
     let a = crate::lists::numbers16(res);
     let p = crate::lists::numbers16(pred);
-    let r = samples::reconstruct::add_residual_4x4(&a, &p);
+    let r = residual::reconstruct::add_residual_4x4(&a, &p);
     let block = r.block;
     crate::lists::leave(out, r.answer, &block);
     r.answer
@@ -87,7 +87,7 @@ pub extern "C" fn jiwarbend_add_residual_8x8(res: &[i32], pred: &[i32], out: &mu
     }
     let a = crate::lists::numbers64(res);
     let p = crate::lists::numbers64(pred);
-    let r = samples::reconstruct::add_residual_8x8(&a, &p);
+    let r = residual::reconstruct::add_residual_8x8(&a, &p);
     let block = r.block;
     crate::lists::leave(out, r.answer, &block);
     r.answer
@@ -110,7 +110,7 @@ pub extern "C" fn jiwarbend_reconstruct_4x4_into(
         return 2;
     }
     let a = crate::lists::numbers16(deq);
-    samples::reconstruct::reconstruct_4x4_into(&a, pred, p_off, p_stride, rec, r_off, r_stride)
+    residual::reconstruct::reconstruct_4x4_into(&a, pred, p_off, p_stride, rec, r_off, r_stride)
 }
 
 #[no_mangle]
@@ -126,7 +126,15 @@ pub extern "C" fn jiwarbend_reconstruct_4x4_dc_into(
     ensures { λ r. ⌜ r ≡ intoAnswer (inRange rval) (length (now (pred .entry))) «p_off» «p_stride» (length (now (rec .entry))) «r_off» «r_stride» ⌝ }
     ensures { λ r. ⌜ now (rec .exit) ≡ written r (now (rec .entry)) (putSquare 4 «r_off» «r_stride» (sumIn 4 (replicate 16 rval) (now (pred .entry)) «p_off» «p_stride») (now (rec .entry))) ⌝ }
 {
-    samples::reconstruct::reconstruct_4x4_dc_into(rval, pred, p_off, p_stride, rec, r_off, r_stride)
+    residual::reconstruct::reconstruct_4x4_dc_into(
+        rval,
+        pred,
+        p_off,
+        p_stride,
+        rec,
+        r_off,
+        r_stride,
+    )
 }
 
 #[no_mangle]
@@ -146,5 +154,5 @@ pub extern "C" fn jiwarbend_add_residual_4x4_into(
         return 2;
     }
     let a = crate::lists::numbers16(res);
-    samples::reconstruct::add_residual_4x4_into(&a, pred, p_off, p_stride, rec, r_off, r_stride)
+    residual::reconstruct::add_residual_4x4_into(&a, pred, p_off, p_stride, rec, r_off, r_stride)
 }

@@ -3,35 +3,35 @@ ghost use mathlib.Core.Path.{_≡_};
 ghost use mathlib.Core.List.{[], _∷_};
 ghost use lib.IntN.{pos};
 ghost use Rattle.laws.specs.Answer.{_unless_, answer, written};
-ghost use Rattle.samples.specs.Clip.{Clip1};
+ghost use Rattle.residual.specs.Clip.{Clip1};
 ghost use Rattle.samples.specs.Marks.{modeSet, permittedNxN, permitted16x16, permittedChroma};
-ghost use Rattle.samples.specs.Nnz.{nC, inRaster};
-ghost use Rattle.samples.specs.Qp.{QPc};
+ghost use Rattle.residual.specs.Nnz.{nC, inRaster};
+ghost use Rattle.residual.specs.Qp.{QPc};
 ghost use Rattle.jiwarbend.specs.Exports.{_has_, neighbor};
 
 #[no_mangle]
 pub extern "C" fn jiwarbend_clip_u8(v: i32) -> u8
     ensures { λ r. ⌜ r ≡ Clip1 v ⌝ }
 {
-    samples::clip::clip_u8(v)
+    residual::clip::clip_u8(v)
 }
 
 #[no_mangle]
 pub extern "C" fn jiwarbend_chroma_qp(qp: u8) -> u8
     ensures { λ r. ⌜ r ≡ QPc qp ⌝ }
 {
-    let c = samples::qp::chroma_qp(samples::qp::LumaQp(qp));
+    let c = residual::qp::chroma_qp(residual::qp::LumaQp(qp));
     c.0
 }
 
 // A number of coefficients where there is such a block.
-fn neighbor_of(there: bool, n: u8) -> samples::nnz::Neighbor
+fn neighbor_of(there: bool, n: u8) -> residual::nnz::Neighbor
     ensures { λ r. ⌜ r ≡ neighbor «there» n ⌝ }
 {
     if there {
-        return samples::nnz::Neighbor::Count(n);
+        return residual::nnz::Neighbor::Count(n);
     }
-    samples::nnz::Neighbor::Absent
+    residual::nnz::Neighbor::Absent
 }
 
 #[no_mangle]
@@ -40,7 +40,7 @@ pub extern "C" fn jiwarbend_nc_from_neighbors(has_a: bool, a: u8, has_b: bool, b
 {
     let left = neighbor_of(has_a, a);
     let above = neighbor_of(has_b, b);
-    samples::nnz::nc_from_neighbors(left, above)
+    residual::nnz::nc_from_neighbors(left, above)
 }
 
 #[no_mangle]
@@ -55,7 +55,7 @@ pub extern "C" fn jiwarbend_nnz_raster_from_z(n: &[u8], out: &mut [u8]) -> u32
         return 2;
     }
     let z = crate::lists::bytes24(n);
-    let raster = samples::nnz::nnz_raster_from_z(&z);
+    let raster = residual::nnz::nnz_raster_from_z(&z);
     crate::lists::leave(out, 0, &raster);
     0
 }

@@ -9,7 +9,7 @@ use lib.IntN.{ℤ, pos, _+ℤ_}
 use lib.ListN.{getD}
 use Rattle.laws.specs.Table.{blockOf}
 use Rattle.laws.proofs.Tables.{getD-table}
-use Rattle.samples.specs.Clip.{Clip1}
+use Rattle.residual.specs.Clip.{Clip1}
 use Rattle.samples.specs.Marks.{modeAnswer}
 use Rattle.macroblock.specs.Cut.{Side, Cut, marksOf, scanX, scanY, has}
 use Rattle.macroblock.specs.Cut.Side.{A, B, C, D}

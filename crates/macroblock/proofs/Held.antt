@@ -10,7 +10,7 @@ use lib.Arith.{digits-div, digits-mod}
 use lib.Dec.{T, eqb, ltb, leb}
 use Rattle.laws.proofs.Digits.{mul-pos}
 use Rattle.laws.proofs.Tests.{T-true}
-use Rattle.samples.specs.Nnz.{blkIdx}
+use Rattle.residual.specs.Nnz.{blkIdx}
 use Rattle.macroblock.specs.Cut.{Side, scanX, scanY, nextX, nextY, holderAt, heldBy, has}
 use Rattle.macroblock.specs.Cut.Side.{A, B, C, D}
 use Rattle.macroblock.specs.Cut.Holder.{own, other, nobody}

@@ -19,7 +19,7 @@ use Rattle.order.specs.Order.{Agree}
 use Rattle.order.specs.Parts.{Parts}
 use Rattle.order.proofs.Parts.{parts-writes, parts-reads}
 use Rattle.samples.specs.Near.{near}
-use Rattle.samples.specs.Nnz.{blkIdx}
+use Rattle.residual.specs.Nnz.{blkIdx}
 use Rattle.macroblock.specs.Cut.{Side, Cut, blocks, scanX, scanY, has}
 use Rattle.macroblock.specs.Cut.Side.{A, B, C, D}
 use Rattle.macroblock.specs.Local.{besideX, besideY, Local}

@@ -14,7 +14,7 @@ use Rattle.laws.proofs.Patches.{length-patch, patch-is, patch-here, patch-other
 use Rattle.laws.proofs.Tests.{true-T}
 use Rattle.order.specs.Parts.{Parts}
 use Rattle.order.proofs.Parts.{parts-at, parts-keeps, parts-ok, parts-writes}
-use Rattle.samples.specs.Nnz.{blkIdx}
+use Rattle.residual.specs.Nnz.{blkIdx}
 use Rattle.macroblock.specs.Cut.{scanX, scanY}
 use Rattle.macroblock.specs.Square.{inBlock, putBlock}
 use Rattle.macroblock.specs.inner.Blocks.{Scan, Fits}

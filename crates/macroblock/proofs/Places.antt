@@ -10,7 +10,7 @@ use lib.Dec.{T, eqb, ltb, leb, eqb→eq, eqb-refl, ltb→lt, lt→ltb, leb→le,
 use Rattle.laws.proofs.Digits.{Placed, placed}
 use Rattle.laws.proofs.Patches.{patch-same}
 use Rattle.laws.proofs.Tests.{both-left, both-right, both-of, same-test}
-use Rattle.samples.specs.Reconstruct.{inSquare, putSquare}
+use Rattle.residual.specs.Reconstruct.{inSquare, putSquare}
 use Rattle.macroblock.specs.Square.{inBlock, putBlock}
 
 module _ (q s Y Z i : ℕ) where

@@ -8,7 +8,7 @@ use native.Mathlib.Omega.{arith}
 use lib.Dec.{T, ltb, eqb, eqb→eq, ltb→lt}
 use Rattle.laws.specs.Table.{allBelow, table}
 use Rattle.laws.proofs.Tests.{below, both-left, both-right}
-use Rattle.samples.specs.Nnz.{blkIdx}
+use Rattle.residual.specs.Nnz.{blkIdx}
 use Rattle.macroblock.specs.Cut.{Holder, scanX, scanY, holderAt, nextX, nextY}
 use Rattle.macroblock.specs.Cut.Side.{B, C}
 use Rattle.macroblock.specs.Cut.Holder.{own, other, nobody}

@@ -8,7 +8,7 @@ use borrow.Author.Tests.{eqb-false, leb-true, le-leb, lt-ltb, ne-eqb}
 use lib.Dec.{eqb, ltb, leb}
 use Rattle.laws.proofs.Digits.{mul-pos}
 use Rattle.laws.proofs.Tests.{and-left}
-use Rattle.samples.specs.Nnz.{blkIdx}
+use Rattle.residual.specs.Nnz.{blkIdx}
 use Rattle.macroblock.specs.Cut.{Side, scanX, scanY, heldBy, has}
 use Rattle.macroblock.specs.Cut.Side.{A, B, C, D}
 use Rattle.macroblock.specs.Cut.Holder.{own, other, nobody}

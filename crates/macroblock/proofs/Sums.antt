@@ -13,9 +13,9 @@ use lib.ListN.{length}
 use Rattle.laws.specs.Answer.{_unless_, answer, written}
 use Rattle.laws.proofs.Answers.{holds, put}
 use Rattle.laws.proofs.Tests.{and-of}
-use Rattle.samples.specs.Nnz.{blkIdx}
-use Rattle.samples.specs.Reconstruct.{putSquare, sumIn, intoRoom}
-use Rattle.samples.proofs.Rooms.{room-of}
+use Rattle.residual.specs.Nnz.{blkIdx}
+use Rattle.residual.specs.Reconstruct.{putSquare, sumIn, intoRoom}
+use Rattle.residual.proofs.Rooms.{room-of}
 use Rattle.macroblock.specs.Kinds.{residualIn}
 use Rattle.macroblock.specs.Square.{putBlock}
 use Rattle.macroblock.specs.inner.Blocks.{Scan, Fits, Transformed, inPieces}

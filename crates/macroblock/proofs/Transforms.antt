@@ -18,9 +18,9 @@ use Rattle.laws.specs.Table.{table}
 use Rattle.laws.proofs.Answers.{holds}
 use Rattle.laws.proofs.Tables.{length-table, getD-table, table-same}
 use Rattle.laws.proofs.Tests.{not-both, no-from, same-test, true-T, T-true}
-use Rattle.samples.specs.Inverse.{inverse4x4, inverseBlocks}
-use Rattle.samples.specs.Numbers.{inRange, allInRange}
-use Rattle.samples.proofs.InRange.{all-at, all-true}
+use Rattle.residual.specs.Inverse.{inverse4x4, inverseBlocks}
+use Rattle.residual.specs.Numbers.{inRange, allInRange}
+use Rattle.residual.proofs.InRange.{all-at, all-true}
 use Rattle.macroblock.specs.Kinds.{residual4x4}
 use Rattle.macroblock.specs.inner.Blocks.{Transformed, firstFor}
 use Rattle.macroblock.proofs.Stretches.{part-at}

@@ -6,7 +6,7 @@ use mathlib.Core.List.{List, [], _∷_}
 use Prim.Native.Nat.{ℕ, _+_, _*_, _-_, _/_, _%_}
 use lib.Dec.{eqb, ltb, leb}
 use Rattle.laws.specs.Table.{table}
-use Rattle.samples.specs.Nnz.{blkIdx}
+use Rattle.residual.specs.Nnz.{blkIdx}
 
 -- 6.4.9: the neighbour macroblocks A, left, B, above, C, above and to the right, and D, above and to the left
 pub data Side : Type 0 where

@@ -7,13 +7,13 @@ use lib.IntN.{ℤ, pos, _+ℤ_}
 use lib.ListN.{getD}
 use Rattle.laws.specs.Range.{at}
 use Rattle.laws.specs.Table.{table}
-use Rattle.samples.specs.Clip.{Clip1}
+use Rattle.residual.specs.Clip.{Clip1}
 use Rattle.samples.specs.Intra16x16.{predL}
 use Rattle.samples.specs.IntraChroma.{predC}
 use Rattle.samples.specs.IntraNxN.{pred4x4L, pred8x8L}
-use Rattle.samples.specs.Inverse.{inverse4x4}
+use Rattle.residual.specs.Inverse.{inverse4x4}
 use Rattle.samples.specs.Near.{Near}
-use Rattle.samples.specs.Nnz.{blkIdx}
+use Rattle.residual.specs.Nnz.{blkIdx}
 use Rattle.macroblock.specs.declared.Record.{Record}
 use Rattle.macroblock.specs.Cut.{Side, Cut, four, eight, whole}
 use Rattle.macroblock.specs.Square.{Rule, square}

@@ -7,7 +7,7 @@ use lib.ListN.{getD}
 use Rattle.laws.specs.Answer.{_unless_, answer}
 use Rattle.laws.specs.Table.{allBelow}
 use Rattle.samples.specs.Marks.{permittedNxN, permitted16x16, permittedChroma}
-use Rattle.samples.specs.Numbers.{allInRange}
+use Rattle.residual.specs.Numbers.{allInRange}
 use Rattle.macroblock.specs.declared.Record.{Record}
 use Rattle.macroblock.specs.Cut.{Side, has}
 use Rattle.macroblock.specs.Cut.Side.{A, B, C, D}

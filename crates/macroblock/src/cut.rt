@@ -3,7 +3,7 @@ ghost use mathlib.Core.Path.{_≡_};
 ghost use mathlib.Core.Bool.{true, cond, _&&_};
 ghost use Prim.Native.Nat.{_+_, _*_, _-_, _≤_, _<_};
 ghost use lib.Dec.{eqb, ltb, leb};
-ghost use Rattle.samples.specs.Nnz.{blkIdx};
+ghost use Rattle.residual.specs.Nnz.{blkIdx};
 ghost use Rattle.macroblock.specs.Cut.{marksOf, scanX, scanY};
 ghost use Rattle.macroblock.specs.Kinds.{cutFor};
 ghost use Rattle.macroblock.specs.inner.Blocks.{Scan, Marked};

@@ -4,7 +4,7 @@ ghost use Prim.Native.Nat.{_+_, _*_, _≤_, _<_};
 ghost use lib.IntN.{pos, _+ℤ_};
 ghost use lib.ListN.{getD, length};
 ghost use Rattle.laws.specs.Range.{at};
-ghost use Rattle.samples.specs.Clip.{Clip1};
+ghost use Rattle.residual.specs.Clip.{Clip1};
 ghost use Rattle.macroblock.specs.Square.{putBlock};
 ghost use Rattle.macroblock.specs.inner.Blocks.{Scan, Fits, inPiece, inPieces};
 use super::cut::scan_x;
@@ -27,7 +27,7 @@ pub(crate) fn put_4x4(
     ensures { λ _. ⌜ now (plane .exit) ≡ putBlock 4 stride row column (λ x y. Clip1 (pos (getD (now (pred .entry)) («p_off» + y * «p_stride» + x) 0) +ℤ inPiece (now (residuals .entry)) b x y)) (now (plane .entry)) ⌝ }
 {
     let off = row * 4 * stride + column * 4;
-    samples::reconstruct::add_residual_into(
+    residual::reconstruct::add_residual_into(
         1,
         &residuals[16 * b..16 * b + 16],
         pred,
@@ -88,7 +88,7 @@ pub(crate) fn put_8x8(
     ensures { λ _. ⌜ now (plane .exit) ≡ putBlock 8 stride row column (λ x y. Clip1 (pos (getD (now (pred .entry)) (y * 8 + x) 0) +ℤ at (now (residuals .entry)) (64 * k + (y * 8 + x)))) (now (plane .entry)) ⌝ }
 {
     let off = row * 8 * stride + column * 8;
-    samples::reconstruct::add_residual_into(
+    residual::reconstruct::add_residual_into(
         2,
         &residuals[64 * k..64 * k + 64],
         pred,

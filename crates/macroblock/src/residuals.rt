@@ -3,7 +3,7 @@ ghost use mathlib.Core.Path.{_≡_};
 ghost use mathlib.Core.List.{[], _∷_};
 ghost use lib.ListN.{length};
 ghost use Rattle.laws.specs.Answer.{_unless_, answer};
-ghost use Rattle.samples.specs.Numbers.{allInRange};
+ghost use Rattle.residual.specs.Numbers.{allInRange};
 ghost use Rattle.macroblock.specs.inner.Blocks.{Transformed, firstFor};
 
 // Transforms a record's numbers where they stand, unless one is out of range. The luma residuals of kind 1 come transformed.
@@ -13,10 +13,10 @@ pub(crate) fn residuals_of(kind: u8, numbers: &mut [i32]) -> u32
     ensures { λ r. ⌜ (r ≡ 0 → Transformed (firstFor kind) (now (numbers .entry)) (now (numbers .exit))) ⌝ }
 {
     if kind == 1 {
-        if !samples::numbers::all_in_range(&numbers[..256]) {
+        if !residual::numbers::all_in_range(&numbers[..256]) {
             return 8;
         }
-        return samples::inverse::inverse_blocks(&mut numbers[256..]);
+        return residual::inverse::inverse_blocks(&mut numbers[256..]);
     }
-    samples::inverse::inverse_blocks(numbers)
+    residual::inverse::inverse_blocks(numbers)
 }

@@ -1,9 +1,6 @@
 -- The laws about this crate's definitions.
-pub mod Agreement
-pub mod Clipped
 pub mod Dc
 pub mod Filters
-pub mod InRange
 pub mod IntraPlane
 pub mod LumaPromise
 pub mod Modes
@@ -11,10 +8,7 @@ pub mod Near
 pub mod Places
 pub mod PlaneMode
 pub mod Related
-pub mod Rooms
 pub mod Runs
 pub mod Slides
-pub mod Squares
-pub mod Transform
 pub mod Whole
 pub mod WholePromise

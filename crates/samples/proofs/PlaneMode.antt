@@ -15,7 +15,7 @@ use Rattle.laws.specs.Table.{sumZ, onto}
 use Rattle.laws.proofs.Ints.{ints, within-fits, within-back, back}
 use Rattle.laws.proofs.Ontos.{onto-at}
 use Rattle.laws.proofs.Sums.{sumZ-same}
-use Rattle.samples.specs.Clip.{Clip1}
+use Rattle.residual.specs.Clip.{Clip1}
 use Rattle.samples.specs.Near.{Near, near}
 use Rattle.samples.specs.PlaneMode.{slope, gradient, ramp, plane}
 use Rattle.samples.specs.inner.Line.{line}

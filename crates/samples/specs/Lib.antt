@@ -1,19 +1,11 @@
 -- The definitions that the crate's contracts cite, by clause.
-pub mod Agreement
-pub mod Clip
-pub mod Figures
 pub mod Intra16x16
 pub mod IntraChroma
 pub mod IntraNxN
 pub mod IntraPlane
-pub mod Inverse
 pub mod LumaPromise
 pub mod Marks
 pub mod Near
-pub mod Nnz
-pub mod Numbers
 pub mod PlaneMode
-pub mod Qp
-pub mod Reconstruct
 pub mod WholePromise
 pub mod inner

@@ -3,4 +3,3 @@ pub mod Line
 pub mod Plane
 pub mod Room
 pub mod Run
-pub mod Sums

@@ -9,8 +9,8 @@ ghost use Rattle.laws.specs.Table.{blockOf, onto};
 ghost use Rattle.samples.specs.Near.{near};
 ghost use Rattle.samples.specs.PlaneMode.{slope, gradient, ramp, plane};
 ghost use Rattle.samples.specs.inner.Plane.{Sloped};
-use super::clip::clip_u8;
 use super::line::line_of;
+use residual::clip::clip_u8;
 
 // a, b and c of the clauses.
 pub struct Levels {

@@ -7,7 +7,7 @@ use lib.IntN.{ℤ}
 use lib.ListN.{getD}
 use Rattle.laws.specs.Range.{at}
 use Rattle.samples.specs.Marks.{modeAnswer}
-use Rattle.samples.specs.Nnz.{blkIdx}
+use Rattle.residual.specs.Nnz.{blkIdx}
 use Rattle.macroblock.specs.Cut.{Side, scanX, scanY, has}
 use Rattle.macroblock.specs.Cut.Side.{A, B, C, D}
 use Rattle.macroblock.specs.Kinds.{residual4x4, cutFor}

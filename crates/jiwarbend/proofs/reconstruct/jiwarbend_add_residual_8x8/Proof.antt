@@ -4,7 +4,7 @@ use native.Mathlib.Omega.{arith}
 use borrow.Author.Needs.{needs}
 use borrow.Author.Tests.{eq-eqb, ne-eqb}
 use lib.ListN.{replicate}
-use Rattle.samples.specs.Reconstruct.{sums}
+use Rattle.residual.specs.Reconstruct.{sums}
 use Rattle.jiwarbend.proofs.Exported.{left, block-long}
 use Rattle.jiwarbend.proofs.reconstruct.jiwarbend_add_residual_8x8.Statement.{statement}
 use Rattle.jiwarbend.proofs.reconstruct.jiwarbend_add_residual_8x8.Tie as tie

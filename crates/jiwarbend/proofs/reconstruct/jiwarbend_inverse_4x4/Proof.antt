@@ -5,7 +5,7 @@ use borrow.Author.Needs.{needs}
 use borrow.Author.Tests.{eq-eqb, ne-eqb}
 use lib.IntN.{pos}
 use lib.ListN.{replicate}
-use Rattle.samples.specs.Inverse.{inverse4x4}
+use Rattle.residual.specs.Inverse.{inverse4x4}
 use Rattle.jiwarbend.proofs.Exported.{left, block-long}
 use Rattle.jiwarbend.proofs.reconstruct.jiwarbend_inverse_4x4.Statement.{statement}
 use Rattle.jiwarbend.proofs.reconstruct.jiwarbend_inverse_4x4.Tie as tie

@@ -5,7 +5,7 @@ use native.Mathlib.Omega.{arith}
 use borrow.Rule.Slice.PartMut.{midOf, mid-len}
 use lib.IntN.{pos, _+ℤ_}
 use lib.ListN.{getD, length}
-use Rattle.samples.specs.Clip.{Clip1}
+use Rattle.residual.specs.Clip.{Clip1}
 use Rattle.macroblock.proofs.Fitting.{in-row}
 use Rattle.macroblock.proofs.Stretches.{part-at}
 use Rattle.macroblock.proofs.Sums.{put-into}

@@ -8,7 +8,7 @@ use lib.ListN.{getD, length}
 use Rattle.laws.specs.Steps.{upTo}
 use Rattle.laws.proofs.Digits.{mul-most}
 use Rattle.laws.proofs.Steps.{steps-none, steps-more}
-use Rattle.samples.specs.Clip.{Clip1}
+use Rattle.residual.specs.Clip.{Clip1}
 use Rattle.macroblock.specs.Cut.{scanX, scanY}
 use Rattle.macroblock.specs.Square.{putBlock}
 use Rattle.macroblock.specs.inner.Blocks.{Fits, inPiece, inPieces}

@@ -1,0 +1,74 @@
+-- The worked figures that the rules mark to be proved: one table, one statement, over the definitions.
+use mathlib.Core.Path.{_≡_, refl}
+use mathlib.Core.Bool.{Bool, true, false}
+use mathlib.Core.List.{List, [], _∷_, _++_, map}
+use Prim.Native.Nat.{ℕ}
+use lib.IntN.{ℤ, pos}
+use lib.ListN.{replicate, set}
+use Rattle.laws.specs.Range.{minus}
+use Rattle.laws.specs.Table.{table, sumOf, sumZ}
+use Rattle.residual.specs.Clip.{Clip1}
+use Rattle.samples.specs.Intra16x16.{predL}
+use Rattle.samples.specs.IntraChroma.{regionDc, predC}
+use Rattle.samples.specs.IntraNxN.{downLeft, downRight, verticalRight, horizontalDown, verticalLeft, horizontalUp, predNxN, pred4x4L, filteredSide, filteredCorner, filtered}
+use Rattle.residual.specs.Inverse.{oneDimensional, rowOf, columnOf, rounded, inverse4x4}
+use Rattle.samples.specs.Near.{Near, near, mean, dc}
+use Rattle.samples.specs.PlaneMode.{slope, ramp, plane}
+use Rattle.residual.specs.Qp.{QPc, table815}
+
+-- what the definitions give, and what the rules say that they give
+pub record Figure : Type 0 where
+  pub has : List ℤ
+  pub is : List ℤ
+
+infix 70 _gives_
+abbrev _gives_ : List ℕ → List ℕ → Figure
+_gives_ has is = record { has = map pos has; is = map pos is }
+
+infix 70 _leaves_
+abbrev _leaves_ : List ℤ → List ℤ → Figure
+_leaves_ has is = record { has = has; is = is }
+
+-- above 10, 20, .., 80, left 12, 24, 36, 48, corner 6; and the same with above-right absent, so that the last sample above is repeated
+abbrev around : List ℕ → Near
+around right = near ((10 ∷ 20 ∷ 30 ∷ 40 ∷ []) ++ right) (12 ∷ 24 ∷ 36 ∷ 48 ∷ []) 6
+
+abbrev full : Near
+full = around (50 ∷ 60 ∷ 70 ∷ 80 ∷ [])
+
+abbrev cut : Near
+cut = around (40 ∷ 40 ∷ 40 ∷ 40 ∷ [])
+
+-- the 4x4 sample of a mode in column x and row y
+abbrev sample : ℕ → Near → ℕ → ℕ → ℕ
+sample mode p x y = pred4x4L mode true true true p x y
+
+-- above 0 four times and 100 four times, left 40 and 80
+abbrev chroma : ℕ → ℕ → ℕ
+chroma = predC 0 true true (near (replicate 4 0 ++ replicate 4 100) (replicate 4 40 ++ replicate 4 80) 0)
+
+-- column x of the 16x16 plane: above 0 and 255 eight times each, left and corner 0
+abbrev column : ℕ → List ℕ
+column x = table 16 (predL 3 true true (near (replicate 8 0 ++ replicate 8 255) (replicate 16 0) 0) x)
+
+abbrev lone : ℤ → List ℤ
+lone v = set (replicate 16 (pos 0)) 0 v
+
+unfoldable pub figures : List Figure
+figures =
+    (pred4x4L 2 true true true full 0 0 ∷ pred4x4L 2 true false false full 0 0 ∷ pred4x4L 2 false true false full 0 0 ∷ pred4x4L 2 false false false full 0 0 ∷ []) gives (28 ∷ 25 ∷ 30 ∷ 128 ∷ [])
+    ∷ (sample 3 full 0 0 ∷ sample 3 full 3 3 ∷ sample 3 cut 3 3 ∷ []) gives (20 ∷ 78 ∷ 40 ∷ [])
+    ∷ (sample 8 full 0 0 ∷ sample 8 full 1 0 ∷ sample 8 full 1 2 ∷ sample 8 full 3 3 ∷ []) gives (18 ∷ 24 ∷ 45 ∷ 48 ∷ [])
+    ∷ (sample 5 full 0 0 ∷ sample 5 full 0 1 ∷ sample 5 full 0 2 ∷ sample 6 full 0 0 ∷ []) gives (8 ∷ 9 ∷ 14 ∷ 9 ∷ [])
+    ∷ (filtered 8 true true false full 1 0 ∷ filtered 8 true true true full 1 0 ∷ []) gives (13 ∷ 12 ∷ [])
+    ∷ (chroma 0 0 ∷ chroma 7 0 ∷ chroma 0 7 ∷ chroma 7 7 ∷ []) gives (20 ∷ 100 ∷ 80 ∷ 90 ∷ [])
+    ∷ column 0 gives replicate 16 0 ∷ column 7 gives replicate 16 128 ∷ column 15 gives replicate 16 255
+    ∷ inverse4x4 (set (lone (pos 31)) 5 (pos 1)) leaves set (set (lone (pos 1)) 11 (pos 1)) 15 (pos 1)
+    ∷ inverse4x4 (lone (pos 31)) leaves replicate 16 (pos 0) ∷ inverse4x4 (lone (pos 32)) leaves replicate 16 (pos 1)
+    ∷ inverse4x4 (lone (minus 32)) leaves replicate 16 (pos 0) ∷ inverse4x4 (lone (minus 33)) leaves replicate 16 (minus 1)
+    ∷ (QPc 29 ∷ QPc 30 ∷ QPc 51 ∷ []) gives (29 ∷ 29 ∷ 39 ∷ [])
+    ∷ []
+
+pub figures-hold : map (λ f. f .has) figures ≡ map (λ f. f .is) figures
+unfolding figures table sumOf sumZ near mean dc predNxN downLeft downRight verticalRight horizontalDown verticalLeft horizontalUp filteredSide filteredCorner filtered predC regionDc predL plane ramp slope Clip1 inverse4x4 columnOf rowOf oneDimensional rounded QPc table815
+figures-hold = refl

@@ -1,0 +1,2 @@
+-- The worked figures of the rules that are proved.
+pub mod Figures

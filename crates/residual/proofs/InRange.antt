@@ -1,0 +1,134 @@
+-- Numbers in range: what a list of them says of each, and how a loop shows it. Assumes nothing.
+use mathlib.Core.Path.{_≡_, refl, sym, ap, _∙_, subst}
+use mathlib.Core.Bool.{Bool, true, false, cond, _&&_}
+use mathlib.Core.List.{List, [], _∷_}
+use Prim.Native.Nat.{ℕ, zero, suc, _+_, _<_, _≤_}
+use native.Mathlib.Numerals.{add-one}
+use native.Mathlib.Omega.{arith}
+use borrow.Author.Tests.{le-leb, leb-true}
+use lib.Dec.{leb}
+use lib.IntN.{ℤ, pos, negsuc}
+use lib.ListN.{length}
+use lib.Signed.{leZ, ltZ}
+use mir.Facts.{toZ-ofZ}
+use mir.Syntax.{w32}
+use mir.Val.{SFits, toZ, ofZ}
+use Rattle.laws.specs.Range.{Within, AllWithin, at, minus}
+use Rattle.laws.specs.Table.{allBelow}
+use Rattle.laws.proofs.Ints.{up, dn, lt-parts, ge-parts}
+use Rattle.laws.proofs.Tests as tests
+use Rattle.laws.proofs.Tests.{true-T, T-true, not-both, same-test, and-left, and-right, and-of, and-no, both-left, both-right, both-of, choose, all-of}
+use Rattle.residual.specs.Numbers.{inRange, allInRange}
+
+pub in-range-within : (z : ℤ) → inRange z ≡ true → Within 32768 z
+unfolding inRange
+in-range-within (pos n) e = record { within = omega (arith, leb-true n 32767 (and-right (leZ (minus 32768) (pos n)) (leb n 32767) e)) }
+in-range-within (negsuc n) e = record { within = omega (arith, leb-true n 32767 (and-left (leb n 32767) true e)) }
+
+pub within-in-range : (z : ℤ) → Within 32767 z → inRange z ≡ true
+unfolding inRange
+within-in-range (pos n) h = le-leb n 32767 (omega (arith, h .within))
+within-in-range (negsuc n) h = and-of (le-leb n 32767 (omega (arith, h .within))) refl
+
+-- every number of a list in range is in range, and so is the 0 past its end
+pub all-at : (s : List ℤ) (k : ℕ) → allInRange s ≡ true → inRange (at s k) ≡ true
+unfolding inRange allInRange
+all-at [] k e = refl
+all-at (z ∷ s) zero e = and-left (inRange z) (allInRange s) e
+all-at (z ∷ s) (suc k) e = all-at s k (and-right (inRange z) (allInRange s) e)
+
+pub all-within : (s : List ℤ) → allInRange s ≡ true → AllWithin 32768 s
+all-within s e = record { each = λ k. in-range-within (at s k) (all-at s k e) }
+
+pub both-within : (a b : List ℤ) → allInRange a && allInRange b ≡ true → AllWithin 32768 a × AllWithin 32768 b
+both-within a b e = (all-within a (and-left (allInRange a) (allInRange b) e), all-within b (and-right (allInRange a) (allInRange b) e))
+
+-- the test of the whole list, from a loop that passed every number, and from one that did not pass number k
+pub all-true : (s : List ℤ) → ((k : ℕ) → k < length s → inRange (at s k) ≡ true) → allInRange s ≡ true
+unfolding allInRange
+all-true [] h = refl
+all-true (z ∷ s) h = rw (h 0 (omega arith), all-true s (λ k l. h (suc k) (omega arith)))
+
+pub all-false : (s : List ℤ) (k : ℕ) → inRange (at s k) ≡ false → allInRange s ≡ false
+unfolding inRange allInRange
+all-false [] k e = e
+all-false (z ∷ s) zero e = rw e
+all-false (z ∷ s) (suc k) e = and-no (inRange z) (allInRange s) (all-false s k e)
+
+-- ---- what is at most the less of two numbers, and what the greater is at most
+le-parts : (x y : ℤ) → leZ x y ≡ true → up x + dn y ≤ up y + dn x
+unfolding up dn
+le-parts (pos a) (pos b) e = omega (arith, leb-true a b e)
+le-parts (pos a) (negsuc b) e = absurd (not-both e refl)
+le-parts (negsuc a) (pos b) e = omega arith
+le-parts (negsuc a) (negsuc b) e = omega (arith, leb-true b a e)
+
+parts-le : (x y : ℤ) → up x + dn y ≤ up y + dn x → leZ x y ≡ true
+unfolding up dn
+parts-le (pos a) (pos b) h = le-leb a b (omega arith)
+parts-le (pos a) (negsuc b) h = absurd (omega arith)
+parts-le (negsuc a) (pos b) h = refl
+parts-le (negsuc a) (negsuc b) h = le-leb b a (omega arith)
+
+first : (p q : Bool) → (p ≡ true → q ≡ true) → p ≡ p && q
+first true q h = sym (h refl)
+first false q h = refl
+
+second : (p q : Bool) → (q ≡ true → p ≡ true) → q ≡ p && q
+second true q h = refl
+second false true h = sym (h refl)
+second false false h = refl
+
+pub least-tells : (z a b : ℤ) → leZ z (cond (ltZ b a) b a) ≡ leZ z a && leZ z b
+least-tells z a b =
+    choose (λ c. leZ z c ≡ leZ z a && leZ z b) (ltZ b a) b a
+    (λ e. second (leZ z a) (leZ z b) (λ h. parts-le z a (omega (arith, le-parts z b h, lt-parts b a e))))
+    (λ e. first (leZ z a) (leZ z b) (λ h. parts-le z b (omega (arith, le-parts z a h, ge-parts b a e))))
+
+pub greatest-tells : (z a b : ℤ) → leZ (cond (ltZ a b) b a) z ≡ leZ a z && leZ b z
+greatest-tells z a b =
+    choose (λ c. leZ c z ≡ leZ a z && leZ b z) (ltZ a b) b a
+    (λ e. second (leZ a z) (leZ b z) (λ h. parts-le a z (omega (arith, le-parts b z h, lt-parts a b e))))
+    (λ e. first (leZ a z) (leZ b z) (λ h. parts-le b z (omega (arith, le-parts a z h, ge-parts a b e))))
+
+-- the numbers of a list are in range where none is too low and none too high
+abbrev pub low : List ℤ → ℕ → Bool
+low s k = leZ (minus 32768) (at s k)
+
+abbrev pub high : List ℤ → ℕ → Bool
+high s k = leZ (at s k) (pos 32767)
+
+pub all-parts : (s : List ℤ) (n : ℕ) → length s ≡ n → allBelow n (low s) && allBelow n (high s) ≡ allInRange s
+unfolding inRange
+all-parts s n e =
+    same-test (allBelow n (low s) && allBelow n (high s)) (allInRange s)
+    (λ t.
+    let l = T-true _ (both-left (allBelow n (low s)) (allBelow n (high s)) t) in
+    let h = T-true _ (both-right (allBelow n (low s)) (allBelow n (high s)) t) in
+    true-T _ (all-true s (λ k b. and-of (tests.all-at n (low s) l k (omega arith)) (tests.all-at n (high s) h k (omega arith)))))
+    (λ t.
+    let good : (k : ℕ) → inRange (at s k) ≡ true = λ k. all-at s k (T-true (allInRange s) t) in
+    both-of (allBelow n (low s)) (allBelow n (high s)) (true-T _ (all-of n (low s) (λ k b. and-left (low s k) (high s k) (good k))))
+    (true-T _ (all-of n (high s) (λ k b. and-right (low s k) (high s k) (good k)))))
+
+-- how a loop that keeps the least, or the greatest, of the numbers passed goes on to number i, and back through the machine's word
+kept : (t : Bool) (a b r : ℤ) → SFits w32 a → SFits w32 b → r ≡ cond t b a → SFits w32 (toZ w32 (ofZ w32 r)) × (toZ w32 (ofZ w32 r) ≡ cond t b a)
+kept t a b r fa fb e =
+    let f : SFits w32 r = subst (SFits w32) (sym e) (choose (SFits w32) t b a (λ _. fb) (λ _. fa)) in
+    (subst (SFits w32) (sym (toZ-ofZ f)) f, toZ-ofZ f ∙ e)
+
+next : (n : ℕ) (f : ℕ → Bool) → allBelow n f && f n ≡ allBelow (n + 1) f
+unfolding allBelow
+next n f = rw (add-one n)
+
+pub least-next : (s : List ℤ) (i : ℕ) (a r : ℤ) → SFits w32 a → SFits w32 (at s i) → leZ (minus 32768) a ≡ allBelow i (low s) → r ≡ cond (ltZ (at s i) a) (at s i) a
+    → SFits w32 (toZ w32 (ofZ w32 r)) × (leZ (minus 32768) (toZ w32 (ofZ w32 r)) ≡ allBelow (i + 1) (low s))
+least-next s i a r fa fb h e =
+    let (f, k) = kept (ltZ (at s i) a) a (at s i) r fa fb e in
+    (f, ap (leZ (minus 32768)) k ∙ least-tells (minus 32768) a (at s i) ∙ ap (λ t. t && low s i) h ∙ next i (low s))
+
+pub greatest-next : (s : List ℤ) (i : ℕ) (a r : ℤ) → SFits w32 a → SFits w32 (at s i) → leZ a (pos 32767) ≡ allBelow i (high s) → r ≡ cond (ltZ a (at s i)) (at s i) a
+    → SFits w32 (toZ w32 (ofZ w32 r)) × (leZ (toZ w32 (ofZ w32 r)) (pos 32767) ≡ allBelow (i + 1) (high s))
+greatest-next s i a r fa fb h e =
+    let (f, k) = kept (ltZ a (at s i)) a (at s i) r fa fb e in
+    (f, ap (λ z. leZ z (pos 32767)) k ∙ greatest-tells (pos 32767) a (at s i) ∙ ap (λ t. t && high s i) h ∙ next i (high s))

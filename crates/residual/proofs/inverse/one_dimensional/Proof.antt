@@ -1,0 +1,28 @@
+-- `samples::inverse::one_dimensional` meets its contract: every need is read off its expression by `ints`, and four numbers within k give four within 4 k.
+-- Assumes nothing.
+use Rattle.laws.proofs.Ints.{ints, four-is}
+use Rattle.residual.specs.Inverse.{oneDimensional}
+use Rattle.residual.proofs.Transform.{one-within, bounded}
+use Rattle.residual.proofs.inverse.one_dimensional.Statement.{statement}
+use Rattle.residual.proofs.inverse.one_dimensional.Tie as tie
+
+returns : tie.Need-returns
+unfolding oneDimensional
+returns c =
+    bounded
+    (four-is (search ints depth 20) (search ints depth 20) (search ints depth 20) (search ints depth 20))
+    (one-within 131072 _ _ _ _ (c .pre .0) (c .pre .1) (c .pre .2) (c .pre .3))
+
+pub one-dimensional-spec : {M : Type 1} → statement M
+one-dimensional-spec =
+    tie.close
+    (tie.spec
+    (λ c. search ints depth 20)
+    (λ c. search ints depth 20)
+    (λ c. search ints depth 20)
+    (λ c. search ints depth 20)
+    (λ c. search ints depth 20)
+    (λ c. search ints depth 20)
+    (λ c. search ints depth 20)
+    (λ c. search ints depth 20)
+    returns)

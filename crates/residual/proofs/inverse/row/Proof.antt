@@ -1,0 +1,49 @@
+-- `samples::inverse::row` meets its contract: the four numbers read are those of the definition. Assumes nothing.
+use Prim.Native.Nat.{_+_, _*_}
+use native.Mathlib.Omega.{arith}
+use mir.Facts.{toZ-ofZ}
+use borrow.Author.Needs.{needs, sfits-of}
+use Rattle.laws.proofs.Ints.{ints}
+use Rattle.residual.specs.Inverse.{rowOf}
+use Rattle.residual.proofs.Transform.{row-within, bounded}
+use Rattle.residual.proofs.inverse.row.Statement.{statement}
+use Rattle.residual.proofs.inverse.row.Tie as tie
+
+one-dimensional-requires : tie.Need-one-dimensional-requires
+one-dimensional-requires c κs =
+    let p = c .before .before .before .before .pre in
+    let k = 4 * c .before .before .before .before .args .i in
+    let w0 = p .1 k (omega arith) in
+    let w1 = p .1 (k + 1) (omega arith) in
+    let w2 = p .1 (k + 2) (omega arith) in
+    let w3 = p .1 (k + 3) (omega arith) in
+    (search ints depth 20, search ints depth 20, search ints depth 20, search ints depth 20)
+
+returns : tie.Need-returns
+unfolding rowOf
+returns c =
+    let a4 = c .before in
+    let a3 = a4 .before in
+    let a2 = a3 .before in
+    let a1 = a2 .before in
+    let e = simp (toZ-ofZ, sfits-of, a1 .one-dimensional-arg .given, a2 .one-dimensional-arg2 .given, a3 .one-dimensional-arg3 .given, a4 .one-dimensional-arg4 .given) at (c .one-dimensional .ensures .0) in
+    bounded e (row-within (a1 .before .args .d .now) (a1 .before .args .i) (a1 .before .pre .2) (a1 .before .pre .1))
+
+pub row-spec : {M : Type 1} → statement M
+row-spec =
+    tie.close
+    (tie.spec
+    (λ c. search needs)
+    (λ c. search needs)
+    (λ c. search needs)
+    (λ c. search needs)
+    (λ c. search needs)
+    (λ c. search needs)
+    (λ c. search needs)
+    (λ c. search needs)
+    (λ c. search needs)
+    (λ c. search needs)
+    (λ c. search needs)
+    (λ c. search needs)
+    one-dimensional-requires
+    returns)
