@@ -12,8 +12,9 @@ use Rattle.laws.specs.Table.{allBelow}
 use Rattle.laws.proofs.Answers.{passes, answer-take}
 use Rattle.laws.proofs.Tests.{and-left, and-right, all-at}
 use Rattle.samples.specs.Marks.{permittedChroma, modeAnswer}
+use Rattle.maps.specs.Neighbours.{Side}
 use Rattle.macroblock.specs.declared.Record.{Record}
-use Rattle.macroblock.specs.Cut.{Side, marksOf}
+use Rattle.macroblock.specs.Cut.{marksOf}
 use Rattle.macroblock.specs.Rules.{used, lastMode, modeKnown, known, permittedAt, permitted, numbersGood, rebuildAnswer}
 use Rattle.macroblock.specs.inner.Blocks.{modeFine}
 use Rattle.macroblock.proofs.ByKind.{used-few}

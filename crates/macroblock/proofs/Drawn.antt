@@ -11,8 +11,9 @@ use Rattle.laws.specs.Table.{blockOf}
 use Rattle.laws.proofs.Tables.{getD-table}
 use Rattle.residual.specs.Clip.{Clip1}
 use Rattle.samples.specs.Marks.{modeAnswer}
-use Rattle.macroblock.specs.Cut.{Side, Cut, marksOf, scanX, scanY, has}
-use Rattle.macroblock.specs.Cut.Side.{A, B, C, D}
+use Rattle.maps.specs.Neighbours.{Side}
+use Rattle.macroblock.specs.Cut.{Cut, marksOf, scanX, scanY, has}
+use Rattle.maps.specs.Neighbours.Side.{A, B, C, D}
 use Rattle.macroblock.specs.Square.{putBlock, around, Rule, part}
 use Rattle.macroblock.specs.inner.Blocks.{Scan, Marked, Fits, Beside}
 use Rattle.macroblock.proofs.Fitting.{in-row}

@@ -11,10 +11,10 @@ use lib.Dec.{T, eqb, ltb, leb}
 use Rattle.laws.proofs.Digits.{mul-pos}
 use Rattle.laws.proofs.Tests.{T-true}
 use Rattle.residual.specs.Nnz.{blkIdx}
-use Rattle.macroblock.specs.Cut.{Side, scanX, scanY, nextX, nextY, holderAt, heldBy, has}
-use Rattle.macroblock.specs.Cut.Side.{A, B, C, D}
+use Rattle.maps.specs.Neighbours.{Side, besideX, besideY}
+use Rattle.macroblock.specs.Cut.{scanX, scanY, nextX, nextY, holderAt, heldBy, has}
+use Rattle.maps.specs.Neighbours.Side.{A, B, C, D}
 use Rattle.macroblock.specs.Cut.Holder.{own, other, nobody}
-use Rattle.macroblock.specs.Local.{besideX, besideY}
 use Rattle.macroblock.specs.Square.{inBlock}
 use Rattle.macroblock.specs.inner.Blocks.{Scan, Beside}
 use Rattle.macroblock.proofs.Places.{block-of}

@@ -20,9 +20,10 @@ use Rattle.order.specs.Parts.{Parts}
 use Rattle.order.proofs.Parts.{parts-writes, parts-reads}
 use Rattle.samples.specs.Near.{near}
 use Rattle.residual.specs.Nnz.{blkIdx}
-use Rattle.macroblock.specs.Cut.{Side, Cut, blocks, scanX, scanY, has}
-use Rattle.macroblock.specs.Cut.Side.{A, B, C, D}
-use Rattle.macroblock.specs.Local.{besideX, besideY, Local}
+use Rattle.maps.specs.Neighbours.{Side, besideX, besideY}
+use Rattle.macroblock.specs.Cut.{Cut, blocks, scanX, scanY, has}
+use Rattle.maps.specs.Neighbours.Side.{A, B, C, D}
+use Rattle.macroblock.specs.Local.{Local}
 use Rattle.macroblock.specs.Square.{inBlock, aboveOf, leftOf, cornerOf, Rule, nearOf, part, square}
 use Rattle.macroblock.specs.inner.Blocks.{Scan, Fits, Beside}
 use Rattle.macroblock.proofs.Held.{rowAt, columnAt, Held, held}

@@ -4,8 +4,9 @@ use mathlib.Core.Bool.{Bool, true, _&&_}
 use Prim.Native.Nat.{ℕ, zero, suc}
 use native.Mathlib.Omega.{arith}
 use Rattle.laws.proofs.Tests.{and-left, and-right}
+use Rattle.maps.specs.Neighbours.{Side}
 use Rattle.macroblock.specs.declared.Record.{Record}
-use Rattle.macroblock.specs.Cut.{Side, four, eight, whole}
+use Rattle.macroblock.specs.Cut.{four, eight, whole}
 use Rattle.macroblock.specs.Kinds.{cutFor, lumaRule, chromaRule}
 use Rattle.macroblock.specs.Local.{Local, Promise}
 use Rattle.macroblock.specs.Rules.{room, rooms}

@@ -5,8 +5,8 @@ use Prim.Native.Nat.{ℕ, _+_, _*_, _-_, _<_}
 use borrow.Author.Tests.{leb-true, ltb-true}
 use lib.Dec.{ltb, leb}
 use Rattle.laws.proofs.Tests.{and-left, and-right, and-both, implied}
-use Rattle.macroblock.specs.Cut.{Side}
-use Rattle.macroblock.specs.Cut.Side.{A, B, C, D}
+use Rattle.maps.specs.Neighbours.{Side}
+use Rattle.maps.specs.Neighbours.Side.{A, B, C, D}
 use Rattle.macroblock.specs.Rules.{room}
 use Rattle.macroblock.specs.inner.Blocks.{Fits, Beside}
 

@@ -10,7 +10,7 @@ use Rattle.laws.specs.Table.{allBelow, table}
 use Rattle.laws.proofs.Tests.{below, both-left, both-right}
 use Rattle.residual.specs.Nnz.{blkIdx}
 use Rattle.macroblock.specs.Cut.{Holder, scanX, scanY, holderAt, nextX, nextY}
-use Rattle.macroblock.specs.Cut.Side.{B, C}
+use Rattle.maps.specs.Neighbours.Side.{B, C}
 use Rattle.macroblock.specs.Cut.Holder.{own, other, nobody}
 use Rattle.macroblock.specs.inner.Blocks.{Scan}
 

@@ -9,8 +9,9 @@ use lib.Dec.{eqb, ltb, leb}
 use Rattle.laws.proofs.Digits.{mul-pos}
 use Rattle.laws.proofs.Tests.{and-left}
 use Rattle.residual.specs.Nnz.{blkIdx}
-use Rattle.macroblock.specs.Cut.{Side, scanX, scanY, heldBy, has}
-use Rattle.macroblock.specs.Cut.Side.{A, B, C, D}
+use Rattle.maps.specs.Neighbours.{Side}
+use Rattle.macroblock.specs.Cut.{scanX, scanY, heldBy, has}
+use Rattle.maps.specs.Neighbours.Side.{A, B, C, D}
 use Rattle.macroblock.specs.Cut.Holder.{own, other, nobody}
 use Rattle.macroblock.specs.inner.Blocks.{Scan, Fits, Beside}
 use Rattle.macroblock.proofs.Scan.{left-first, above-first, corner-first}

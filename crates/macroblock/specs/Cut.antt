@@ -7,10 +7,8 @@ use Prim.Native.Nat.{ℕ, _+_, _*_, _-_, _/_, _%_}
 use lib.Dec.{eqb, ltb, leb}
 use Rattle.laws.specs.Table.{table}
 use Rattle.residual.specs.Nnz.{blkIdx}
-
--- 6.4.9: the neighbour macroblocks A, left, B, above, C, above and to the right, and D, above and to the left
-pub data Side : Type 0 where
-  A B C D : Side
+use Rattle.maps.specs.Neighbours.{Side}
+use Rattle.maps.specs.Neighbours.Side.{A, B, C, D}
 
 -- which of them are available
 abbrev pub marksOf : Bool → Bool → Bool → Bool → Side → Bool

@@ -14,8 +14,9 @@ use Rattle.samples.specs.IntraNxN.{pred4x4L, pred8x8L}
 use Rattle.residual.specs.Inverse.{inverse4x4}
 use Rattle.samples.specs.Near.{Near}
 use Rattle.residual.specs.Nnz.{blkIdx}
+use Rattle.maps.specs.Neighbours.{Side}
 use Rattle.macroblock.specs.declared.Record.{Record}
-use Rattle.macroblock.specs.Cut.{Side, Cut, four, eight, whole}
+use Rattle.macroblock.specs.Cut.{Cut, four, eight, whole}
 use Rattle.macroblock.specs.Square.{Rule, square}
 
 -- ---- residuals, from a record's numbers

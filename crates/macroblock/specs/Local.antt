@@ -5,24 +5,11 @@ use mathlib.Core.List.{List}
 use Prim.Native.Nat.{ℕ, _+_, _-_}
 use lib.Dec.{T}
 use lib.ListN.{getD, length}
+use Rattle.maps.specs.Neighbours.{Side, besideX, besideY}
 use Rattle.macroblock.specs.declared.Record.{Record}
-use Rattle.macroblock.specs.Cut.{Side}
-use Rattle.macroblock.specs.Cut.Side.{A, B, C, D}
+use Rattle.maps.specs.Neighbours.Side.{A, B, C, D}
 use Rattle.macroblock.specs.Square.{inBlock}
 use Rattle.macroblock.specs.Kinds.{lumaSquare, cbSquare, crSquare}
-
--- where a neighbour macroblock stands
-abbrev pub besideX : ℕ → Side → ℕ
-besideX x A = x - 1
-besideX x B = x
-besideX x C = x + 1
-besideX x D = x - 1
-
-abbrev pub besideY : ℕ → Side → ℕ
-besideY y A = y
-besideY y B = y - 1
-besideY y C = y - 1
-besideY y D = y - 1
 
 -- a step in planes of n samples with stride s: it keeps the length, it changes the square of side q at (x, y) only, and what it leaves there depends on
 -- the squares of the marked neighbours only: neither on what the square itself held before, nor on any other sample

@@ -8,9 +8,10 @@ use Rattle.laws.specs.Answer.{_unless_, answer}
 use Rattle.laws.specs.Table.{allBelow}
 use Rattle.samples.specs.Marks.{permittedNxN, permitted16x16, permittedChroma}
 use Rattle.residual.specs.Numbers.{allInRange}
+use Rattle.maps.specs.Neighbours.{Side}
 use Rattle.macroblock.specs.declared.Record.{Record}
-use Rattle.macroblock.specs.Cut.{Side, has}
-use Rattle.macroblock.specs.Cut.Side.{A, B, C, D}
+use Rattle.macroblock.specs.Cut.{has}
+use Rattle.maps.specs.Neighbours.Side.{A, B, C, D}
 use Rattle.macroblock.specs.Kinds.{cutFor}
 
 -- 2: in a plane of `len` samples with stride s, at most 4096, lie the square of side q at (x, y) and each marked neighbour: A and D have a column of squares

@@ -9,8 +9,9 @@ use Rattle.laws.specs.Patch.{patch}
 use Rattle.laws.specs.Steps.{upTo}
 use Rattle.laws.specs.Table.{table}
 use Rattle.samples.specs.Near.{Near, near}
-use Rattle.macroblock.specs.Cut.{Side, Cut, blocks, scanX, scanY, has}
-use Rattle.macroblock.specs.Cut.Side.{A, B, C, D}
+use Rattle.maps.specs.Neighbours.{Side}
+use Rattle.macroblock.specs.Cut.{Cut, blocks, scanX, scanY, has}
+use Rattle.maps.specs.Neighbours.Side.{A, B, C, D}
 
 -- a plane with stride s, cut into blocks of side q: place i lies in the block in row Y and column Z of blocks
 abbrev pub inBlock : (q s Y Z i : ℕ) → Bool

@@ -17,8 +17,8 @@ use Rattle.order.specs.Driver.{View, Started, Fair, after, Carries, Acceptable}
 use Rattle.order.proofs.AnyOrder.{done-agrees, ok-steps}
 use Rattle.order.proofs.Driver.{done-is-raster, whole-is-raster, padding-kept, ok-kept, raster-taken, counted, count-full}
 use Rattle.order.proofs.Raster.{raster-permitted, raster-done, build-raster}
-use Rattle.macroblock.specs.Cut.{Side}
-use Rattle.macroblock.specs.Local.{besideX, besideY, Local}
+use Rattle.maps.specs.Neighbours.{Side, besideX, besideY}
+use Rattle.macroblock.specs.Local.{Local}
 use Rattle.picture.specs.Size.{Plane, side, sizeOk}
 use Rattle.picture.specs.Neighbours.{beside}
 use Rattle.picture.specs.Progress.{begun, startAnswer}

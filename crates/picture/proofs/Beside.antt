@@ -9,9 +9,8 @@ use lib.Dec.{ltb, eqb}
 use lib.ListN.{getD}
 use borrow.Author.Tests.{ltb-true}
 use Rattle.laws.proofs.Tests.{and-left, and-both, and-same, implied-same}
-use Rattle.macroblock.specs.Cut.{Side}
-use Rattle.macroblock.specs.Cut.Side.{A, B, C, D}
-use Rattle.macroblock.specs.Local.{besideX, besideY}
+use Rattle.maps.specs.Neighbours.{Side, besideX, besideY}
+use Rattle.maps.specs.Neighbours.Side.{A, B, C, D}
 use Rattle.picture.specs.Size.{address}
 use Rattle.picture.specs.Neighbours.{inPicture, beside, available}
 use Rattle.picture.specs.Rebuild.{isDone, settled}

@@ -11,8 +11,9 @@ use borrow.Author.Tests.{ltb-true, le-leb}
 use Rattle.laws.specs.Answer.{answer}
 use Rattle.laws.proofs.Answers.{holds}
 use Rattle.laws.proofs.Tests.{and-left, and-both, and-of, implied-of}
-use Rattle.macroblock.specs.Cut.{Side, marksOf}
-use Rattle.macroblock.specs.Cut.Side.{A, B, C, D}
+use Rattle.maps.specs.Neighbours.{Side}
+use Rattle.macroblock.specs.Cut.{marksOf}
+use Rattle.maps.specs.Neighbours.Side.{A, B, C, D}
 use Rattle.macroblock.specs.Rules.{room, rooms, rebuildAnswer}
 use Rattle.macroblock.specs.Local.{Local, Promise}
 use Rattle.macroblock.proofs.Promised.{promised}

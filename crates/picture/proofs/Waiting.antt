@@ -11,8 +11,8 @@ use Rattle.laws.specs.Answer.{_unless_, answer}
 use Rattle.laws.proofs.Answers.{answer-take}
 use Rattle.laws.proofs.Tests.{not-both, no-from, and-both, implied, implied-of, implied-no}
 use Rattle.order.specs.Order.{Done}
-use Rattle.macroblock.specs.Cut.{Side}
-use Rattle.macroblock.specs.Cut.Side.{A, B, C, D}
+use Rattle.maps.specs.Neighbours.{Side}
+use Rattle.maps.specs.Neighbours.Side.{A, B, C, D}
 use Rattle.macroblock.specs.Rules.{known, permitted, numbersGood}
 use Rattle.picture.specs.Neighbours.{beside}
 use Rattle.picture.specs.Rebuild.{Call, Lent, here, marks, isDone, waitsFor, settled, allSettled, recordRules, rules, answerTo, earlier}

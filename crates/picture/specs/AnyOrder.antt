@@ -7,7 +7,7 @@ use Prim.Native.Nat.{ℕ, _<_}
 use lib.ListN.{length, replicate}
 use Rattle.order.specs.Driver.{answers}
 use Rattle.order.specs.Order.{Agree, Done, AllDone, ones, raster}
-use Rattle.macroblock.specs.Cut.{Side}
+use Rattle.maps.specs.Neighbours.{Side}
 use Rattle.picture.specs.Size.{Plane}
 use Rattle.picture.specs.Neighbours.{beside}
 use Rattle.picture.specs.Rebuild.{Call, Lent, here, waitsFor, Acceptable, answerTo, earlier}

@@ -4,9 +4,8 @@ use mathlib.Core.List.{List}
 use Prim.Native.Nat.{ℕ, _+_}
 use lib.Dec.{ltb, eqb}
 use lib.ListN.{getD}
-use Rattle.macroblock.specs.Cut.{Side}
-use Rattle.macroblock.specs.Local.{besideX, besideY}
-use Rattle.macroblock.specs.Cut.Side.{A, B, C, D}
+use Rattle.maps.specs.Neighbours.{Side, besideX, besideY}
+use Rattle.maps.specs.Neighbours.Side.{A, B, C, D}
 use Rattle.picture.specs.Size.{address}
 
 -- whether macroblock (x, y) of a picture w wide has one on that side

@@ -6,8 +6,8 @@ use Prim.Native.Nat.{ℕ}
 use lib.Dec.{eqb}
 use lib.ListN.{getD, length, set, take}
 use Rattle.laws.specs.Answer.{Check, _unless_, answer, written}
-use Rattle.macroblock.specs.Cut.{Side}
-use Rattle.macroblock.specs.Cut.Side.{A, B, C, D}
+use Rattle.maps.specs.Neighbours.{Side}
+use Rattle.maps.specs.Neighbours.Side.{A, B, C, D}
 use Rattle.macroblock.specs.Kinds.{lumaSquare, cbSquare, crSquare}
 use Rattle.macroblock.specs.Rules.{known, permitted, numbersGood}
 use Rattle.macroblock.specs.declared.Record.{Record}

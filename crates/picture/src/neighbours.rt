@@ -4,7 +4,7 @@ ghost use mathlib.Core.Bool.{true, not, _&&_, _||_};
 ghost use Prim.Native.Nat.{_-_, _≤_, _<_};
 ghost use lib.Dec.{eqb};
 ghost use lib.ListN.{length, getD};
-ghost use Rattle.macroblock.specs.Cut.Side.{A, B, C, D};
+ghost use Rattle.maps.specs.Neighbours.Side.{A, B, C, D};
 ghost use Rattle.picture.specs.Size.{address};
 ghost use Rattle.picture.specs.Neighbours.{available};
 ghost use Rattle.picture.specs.Rebuild.{isDone, allSettled};

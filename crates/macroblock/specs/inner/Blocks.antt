@@ -8,8 +8,9 @@ use lib.ListN.{getD}
 use Rattle.laws.specs.Range.{at}
 use Rattle.samples.specs.Marks.{modeAnswer}
 use Rattle.residual.specs.Nnz.{blkIdx}
-use Rattle.macroblock.specs.Cut.{Side, scanX, scanY, has}
-use Rattle.macroblock.specs.Cut.Side.{A, B, C, D}
+use Rattle.maps.specs.Neighbours.{Side}
+use Rattle.macroblock.specs.Cut.{scanX, scanY, has}
+use Rattle.maps.specs.Neighbours.Side.{A, B, C, D}
 use Rattle.macroblock.specs.Kinds.{residual4x4, cutFor}
 use Rattle.macroblock.specs.Rules.{lastMode, permittedFor}
 

@@ -9,7 +9,8 @@ use lib.ListN.{length}
 use borrow.Author.Tests.{not-true, not-false}
 use Rattle.laws.specs.Answer.{answer, written}
 use Rattle.laws.proofs.Answers.{put, refused}
-use Rattle.macroblock.specs.Cut.{Side, marksOf}
+use Rattle.maps.specs.Neighbours.{Side}
+use Rattle.macroblock.specs.Cut.{marksOf}
 use Rattle.macroblock.specs.Kinds.{lumaSquare, cbSquare, crSquare}
 use Rattle.picture.specs.Size.{total}
 use Rattle.picture.specs.Rebuild.{Call, call, Lent, lent, here, marks, recordRules, earlier}

@@ -2,7 +2,7 @@
 use mathlib.Core.Path.{_≡_}
 use mathlib.Core.List.{List}
 use Prim.Native.Nat.{ℕ, _≤_}
-use Rattle.macroblock.specs.Cut.Side.{A, B, C, D}
+use Rattle.maps.specs.Neighbours.Side.{A, B, C, D}
 use Rattle.picture.specs.Neighbours.{available}
 use Rattle.picture.specs.declared.neighbours.Marks.{Marks}
 

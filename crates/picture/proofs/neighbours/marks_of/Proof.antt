@@ -1,7 +1,7 @@
 -- `picture::neighbours::marks_of` meets its contract: each neighbour is as far back as its place says. Assumes nothing.
 use mathlib.Core.Path.{_∙_}
 use native.Mathlib.Omega.{arith}
-use Rattle.macroblock.specs.Cut.Side.{A, B, C, D}
+use Rattle.maps.specs.Neighbours.Side.{A, B, C, D}
 use Rattle.picture.proofs.Beside.{beside-at, available-is}
 use borrow.Author.Needs.{needs}
 use Rattle.picture.proofs.neighbours.marks_of.Statement.{statement}

@@ -4,8 +4,8 @@ use mathlib.Core.Bool.{Bool, true, not, _||_}
 use mathlib.Core.List.{List}
 use Prim.Native.Nat.{ℕ, _-_, _≤_, _<_}
 use native.Mathlib.Omega.{arith}
-use Rattle.macroblock.specs.Cut.{Side}
-use Rattle.macroblock.specs.Cut.Side.{A, B, C, D}
+use Rattle.maps.specs.Neighbours.{Side}
+use Rattle.maps.specs.Neighbours.Side.{A, B, C, D}
 use Rattle.picture.specs.Size.{address}
 use Rattle.picture.specs.Neighbours.{available}
 use Rattle.picture.specs.Rebuild.{isDone, settled, allSettled}

@@ -1,0 +1,2 @@
+-- The maps of a picture: neighbours.
+pub mod Neighbours
