@@ -17,7 +17,7 @@ use borrow.Author.Tests.{ltb-true, ltb-false}
 use lib.Dec.{T, ltb, leb, ltb→lt, nltb→le, leb→le}
 use lib.IntN.{ℤ, pos, negsuc, natAbs, negℤ, subℕ, _+ℤ_, _*ℤ_}
 use lib.Signed.{shrZ, ltZ, nonNeg}
-use mir.Syntax.{w8, w32}
+use mir.Syntax.{w8, w16, w32}
 use mir.Val.{SFits, Fits, toZ, ofZ}
 use mir.ValLaws.{toZ-ofZ, toZ-pos}
 use Rattle.laws.specs.Range.{Within, AllWithin, at}
@@ -72,14 +72,7 @@ unfolding up dn
 parts-abs (pos a) = omega arith
 parts-abs (negsuc a) = omega arith
 
--- for `omega`'s list by their bare names: the first turns a goal, the others read hypotheses
-pub eq-parts : (x y : ℤ) → up x + dn y ≡ up y + dn x → x ≡ y
-unfolding up dn
-eq-parts (pos a) (pos b) e = ap pos (omega arith)
-eq-parts (pos a) (negsuc b) e = absurd (omega arith)
-eq-parts (negsuc a) (pos b) e = absurd (omega arith)
-eq-parts (negsuc a) (negsuc b) e = ap negsuc (omega arith)
-
+-- for `omega`'s list by their bare names: they read hypotheses
 pub lt-parts : (x y : ℤ) → ltZ x y ≡ true → up x + dn y < up y + dn x
 unfolding up dn
 lt-parts (pos a) (pos b) e = omega (arith, ltb-true a b e)
@@ -205,6 +198,25 @@ added S r h a b e p q l =
 -- a number that is not negative, as a signed one: its bits are the number
 pub nat-within : (k n : ℕ) → n ≤ k → k < 2147483648 → Within k (toZ w32 n)
 nat-within k n h l = subst (Within k) (sym (toZ-pos w32 n (omega arith))) (record { within = h })
+
+-- ---- numbers of sixteen bits
+pub within-short : {z : ℤ} → Within 32767 z → SFits w16 z
+within-short {z = pos n} h = record { sfits = omega (arith, h .within) }
+within-short {z = negsuc n} h = record { sfits = omega (arith, h .within) }
+
+pub short-within : {z : ℤ} → SFits w16 z → Within 32768 z
+short-within {z = pos n} f = record { within = omega (arith, f .sfits) }
+short-within {z = negsuc n} f = record { within = omega (arith, f .sfits) }
+
+-- one of them read as a wider number
+pub short-read : {z : ℤ} → SFits w16 z → Within 32768 (toZ w16 (ofZ w16 z))
+short-read {z} f = subst (Within 32768) (sym (toZ-ofZ w16 z f)) (short-within f)
+
+pub short-fits : {z : ℤ} → SFits w16 z → SFits w32 (toZ w16 (ofZ w16 z))
+short-fits {z} f = within-fits (within-more 32768 2147483647 (toZ w16 (ofZ w16 z)) (short-read f) tt)
+
+pub short-wide : {z : ℤ} → SFits w16 z → toZ w32 (ofZ w32 (toZ w16 (ofZ w16 z))) ≡ z
+short-wide {z} f = toZ-ofZ w32 (toZ w16 (ofZ w16 z)) (short-fits f) ∙ toZ-ofZ w16 z f
 
 -- ---- tests: a number that is neither below 0 nor above 255 is a byte, as a cast to `u8` asks
 pub is-byte : (z : ℤ) → ltZ z (pos 0) ≡ false → ltZ (pos 255) z ≡ false → T (nonNeg z) × Fits w8 (natAbs z)

@@ -25,6 +25,10 @@ module _ {A : Type 0} where
   pub onto-more : (k : ℕ) (f : ℕ → A) (l l′ : List A) {v : A} → k < length l → l′ ≡ onto k f l → v ≡ f k → set l′ k v ≡ onto (k + 1) f l
   onto-more k f l l′ {v} h e q = ap (λ m. set m k v) e ∙ rw (add-one k) (next k f l v h q)
 
+  -- the same with the next number given: for places that are written out one after the other
+  pub onto-next : (k m : ℕ) (f : ℕ → A) (l : List A) {l′ : List A} {v : A} → m ≡ k + 1 → k < length l → l′ ≡ onto k f l → v ≡ f k → set l′ k v ≡ onto m f l
+  onto-next k m f l {l′} e h p q = rw e (onto-more k f l l′ h p q)
+
   getD-front : (k : ℕ) (f : ℕ → A) (t : List A) (d : A) (i : ℕ) → i < k → getD (table k f ++ t) i d ≡ f i
   unfolding table
   getD-front zero f t d i h = absurd (not-suc-le-zero h)

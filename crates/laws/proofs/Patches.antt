@@ -83,6 +83,10 @@ pub front-more : (f : ℕ → ℕ) (c v : ℕ) (l l′ : List ℕ) → c < lengt
 front-more f c v l l′ h e g =
     ap₂ (λ x y. set x c y) g e ∙ patch-set (λ i. ltb i c) (λ i. ltb i (c + 1)) f l c h (lt-ltb c (c + 1) (omega arith)) (λ i q. ltb-next i c q)
 
+-- the same with the next number given: for places that are written out one after the other
+pub front-next : (c m : ℕ) (f : ℕ → ℕ) (l : List ℕ) {l′ : List ℕ} {v : ℕ} → m ≡ c + 1 → c < length l → l′ ≡ front f c l → v ≡ f c → set l′ c v ≡ front f m l
+front-next c m f l {l′} {v} e h p q = rw e (front-more f c v l l′ h q p)
+
 pub length-front : (f : ℕ → ℕ) (c : ℕ) (l l′ : List ℕ) → l′ ≡ front f c l → length l′ ≡ length l
 length-front f c l l′ e = ap length e ∙ length-patch (λ i. ltb i c) f l
 

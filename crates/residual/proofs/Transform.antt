@@ -10,11 +10,12 @@ use lib.Dec.{lit<}
 use lib.ListN.{length, getD, drop}
 use lib.Seq.{getD-take, getD-drop, drop-at}
 use lib.Signed.{shrZ}
-use mir.Syntax.{w32}
-use mir.Val.{toZ, ofZ}
+use mir.Syntax.{w16, w32}
+use mir.Val.{SFits, toZ, ofZ}
+use mir.ValLaws.{toZ-ofZ}
 use Rattle.laws.specs.Range.{Within, AllWithin, at}
 use Rattle.laws.specs.Table.{table, blockOf, onto}
-use Rattle.laws.proofs.Ints.{ints, within-more, within-neg, within-shr, within-table, abs-add, parts-abs, parts-shr, four-is, back}
+use Rattle.laws.proofs.Ints.{ints, within-more, within-neg, within-shr, within-short, within-table, abs-add, parts-abs, parts-shr, four-is, back}
 use Rattle.laws.proofs.Ontos.{onto-long, onto-row}
 use Rattle.laws.proofs.Tables.{length-table, getD-table, table-same}
 use Rattle.residual.specs.Inverse.{oneDimensional, rowOf, columnOf, rounded, inverse4x4}
@@ -65,21 +66,22 @@ rounded-small z h =
 rounded-within : (z : ℤ) → Within 524288 z → Within 32768 (rounded z)
 rounded-within z h = within-more 16384 32768 (rounded z) (rounded-small z h) tt
 
-all-rounded : (l : List ℤ) → AllWithin 524288 l → (n : ℕ) → Within 32768 (at (map rounded l) n)
-all-rounded [] a n = record { within = omega arith }
-all-rounded (z ∷ l) a zero = rounded-within z (a .each 0)
-all-rounded (z ∷ l) a (suc n) = all-rounded l (record { each = λ m. a .each (suc m) }) n
+-- so a rounded number has sixteen bits
+pub round-short : (z : ℤ) → Within 524288 z → SFits w16 (machine-rounded z) × (toZ w16 (ofZ w16 (machine-rounded z)) ≡ rounded z)
+round-short z h =
+    let f = within-short {z = rounded z} (within-more 16384 32767 (rounded z) (rounded-small z h) tt) in
+    (subst (SFits w16) (sym (round-is z h)) f, ap (λ u. toZ w16 (ofZ w16 u)) (round-is z h) ∙ toZ-ofZ w16 (rounded z) f)
 
--- a column of four such numbers
-pub column-is : (h : List ℤ) (a b c d : ℤ) → h ≡ oneDimensional a b c d → AllWithin 524288 h
-    → let r = machine-rounded (at h 0) ∷ machine-rounded (at h 1) ∷ machine-rounded (at h 2) ∷ machine-rounded (at h 3) ∷ [] in
-    (r ≡ map rounded (oneDimensional a b c d)) × AllWithin 32768 r
+-- a rounded number of a column, and the column
+pub column-at : {r z : ℤ} → r ≡ rounded (toZ w32 (ofZ w32 z)) → Within 524288 z → toZ w16 (ofZ w16 r) ≡ rounded z
+column-at {r} {z} e h =
+    ap (λ u. toZ w16 (ofZ w16 u)) (e ∙ ap rounded (back 524288 h tt))
+    ∙ toZ-ofZ w16 (rounded z) (within-short (within-more 16384 32767 (rounded z) (rounded-small z h) tt))
+
+pub column-is : (h : List ℤ) (a b c d : ℤ) → h ≡ oneDimensional a b c d
+    → (rounded (at h 0) ∷ rounded (at h 1) ∷ rounded (at h 2) ∷ rounded (at h 3) ∷ []) ≡ map rounded (oneDimensional a b c d)
 unfolding oneDimensional
-column-is h a b c d e w =
-    bounded
-    (four-is (round-is (at h 0) (w .each 0)) (round-is (at h 1) (w .each 1)) (round-is (at h 2) (w .each 2)) (round-is (at h 3) (w .each 3))
-    ∙ ap (λ l. rounded (at l 0) ∷ rounded (at l 1) ∷ rounded (at l 2) ∷ rounded (at l 3) ∷ []) e)
-    (record { each = all-rounded (oneDimensional a b c d) (subst (AllWithin 524288) e w) })
+column-is h a b c d e = ap (λ l. rounded (at l 0) ∷ rounded (at l 1) ∷ rounded (at l 2) ∷ rounded (at l 3) ∷ []) e
 
 -- column j of four transformed rows, transformed and rounded
 abbrev columnIn : List ℤ → List ℤ → List ℤ → List ℤ → ℕ → List ℤ
@@ -123,13 +125,12 @@ inverse-same d d′ e =
       e 15 (lit< tt),
     )
 
--- row i of a block whose columns are known, as the machine reads it from them
-pub place-is : (h0 h1 h2 h3 h : List ℤ) (i j k : ℕ) → j < 4 → k ≡ 4 * i + j → getD (h0 ∷ h1 ∷ h2 ∷ h3 ∷ []) j [] ≡ h → AllWithin 32768 h
-    → toZ w32 (ofZ w32 (at h i)) ≡ placeIn h0 h1 h2 h3 k
-place-is h0 h1 h2 h3 h i j k b n e w =
+-- row i of a block whose columns are known
+pub place-is : (h0 h1 h2 h3 h : List ℤ) (i j k : ℕ) → j < 4 → k ≡ 4 * i + j → getD (h0 ∷ h1 ∷ h2 ∷ h3 ∷ []) j [] ≡ h → at h i ≡ placeIn h0 h1 h2 h3 k
+place-is h0 h1 h2 h3 h i j k b n e =
     let m : k % 4 ≡ j = omega arith in
     let d : k / 4 ≡ i = omega arith in
-    back 32768 (w .each i) tt ∙ sym (ap₂ (λ (x y : ℕ). at (getD (h0 ∷ h1 ∷ h2 ∷ h3 ∷ []) x []) y) m d ∙ ap (λ l. at l i) e)
+    sym (ap₂ (λ (x y : ℕ). at (getD (h0 ∷ h1 ∷ h2 ∷ h3 ∷ []) x []) y) m d ∙ ap (λ l. at l i) e)
 
 -- number i of the residuals of each sixteen numbers of a list
 abbrev pub blockAt : List ℤ → ℕ → ℤ
@@ -139,28 +140,26 @@ itself : (d : List ℤ) → table 16 (at (inverse4x4 d)) ≡ inverse4x4 d
 unfolding inverse4x4
 itself d = table-same 16 _ _ (getD-table (pos 0) 16 (λ k. rounded (at (columnOf d (k % 4)) (k / 4))))
 
--- a list whose first b blocks are put: block b is still as it was, and it is put through the part of the list from its first number on
-module _ (b : ℕ) (l l′ : List ℤ) (e : l′ ≡ onto (16 * b) (blockAt l) l) (room : 16 * b + 16 ≤ length l) where
-  abbrev rest : List ℤ
-  rest = midOf (16 * b) (length l′ - 16 * b) l′
+-- `out` with the first b blocks of a list put: the next is put through the part of it from its first place on
+module _ (b : ℕ) (l out out′ : List ℤ) (e : out′ ≡ onto (16 * b) (blockAt l) out) (room : 16 * b + 16 ≤ length l) (long : length out ≡ length l) where
+  abbrev part : List ℤ
+  part = midOf (16 * b) (length l - 16 * b) l
 
-  pub kept : length l′ ≡ length l
-  kept = onto-long (16 * b) (blockAt l) l l′ (omega arith) e
+  pub kept : length out′ ≡ length out
+  kept = onto-long (16 * b) (blockAt l) out out′ (omega arith) e
 
-  pub block-at : (k : ℕ) → k < 16 → at rest k ≡ at l (16 * b + k)
-  block-at k h =
-      getD-take (length l′ - 16 * b) (drop (16 * b) l′) k (pos 0) (omega (arith, kept))
-      ∙ ap (λ t. at t k) (ap (drop (16 * b)) e ∙ drop-at (table (16 * b) (blockAt l)) (drop (16 * b) l) (16 * b) (length-table (pos 0) (16 * b) (blockAt l)))
-      ∙ getD-drop (16 * b) l k (pos 0)
+  pub block-at : (k : ℕ) → k < 16 → at part k ≡ at l (16 * b + k)
+  block-at k h = getD-take (length l - 16 * b) (drop (16 * b) l) k (pos 0) (omega arith) ∙ getD-drop (16 * b) l k (pos 0)
 
-  pub block-more : (ys : List ℤ) → ys ≡ inverse4x4 rest ++ drop 16 rest → putMid (16 * b) (length l′ - 16 * b) l′ ys ≡ onto (16 * (b + 1)) (blockAt l) l
+  pub block-more : (ys : List ℤ) → ys ≡ inverse4x4 part ++ drop 16 (midOf (16 * b) (length out′ - 16 * b) out′)
+      → putMid (16 * b) (length out′ - 16 * b) out′ ys ≡ onto (16 * (b + 1)) (blockAt l) out
   block-more ys f =
       let n : 16 * (b + 1) ≡ 16 * b + 16 = omega arith in
-      rw n (onto-row (16 * b) 16 (blockAt l) (at (inverse4x4 rest)) l l′ ys (omega arith) e (f ∙ ap (λ t. t ++ drop 16 rest) (sym (itself rest))) same)
+      rw n (onto-row (16 * b) 16 (blockAt l) (at (inverse4x4 part)) out out′ ys (omega arith) e (f ∙ ap (λ t. t ++ drop 16 (midOf (16 * b) (length out′ - 16 * b) out′)) (sym (itself part))) same)
     where
-      same : (i : ℕ) → i < 16 → at (inverse4x4 rest) i ≡ blockAt l (16 * b + i)
+      same : (i : ℕ) → i < 16 → at (inverse4x4 part) i ≡ blockAt l (16 * b + i)
       same i h =
           let m : (16 * b + i) / 16 * 16 ≡ 16 * b = omega arith in
           let r : (16 * b + i) % 16 ≡ i = omega arith in
-          ap (λ t. at t i) (inverse-same rest (table 16 (λ k. at l (16 * b + k))) (λ k h. block-at k h ∙ sym (getD-table (pos 0) 16 (λ k. at l (16 * b + k)) k h)))
+          ap (λ t. at t i) (inverse-same part (table 16 (λ k. at l (16 * b + k))) (λ k h. block-at k h ∙ sym (getD-table (pos 0) 16 (λ k. at l (16 * b + k)) k h)))
           ∙ sym (ap₂ (λ (x y : ℕ). at (inverse4x4 (table 16 (λ k. at l (x + k)))) y) m r)

@@ -32,53 +32,66 @@ pub fn inverse_4x4(deq: &[i32; 16]) -> Residual4x4
     }
     Residual4x4 {
         answer: 0,
-        block: inverse_core(deq),
+        block: widened(&inverse_core(deq)),
     }
 }
 
-// Each sixteen numbers of a list, transformed where they stand.
-pub fn inverse_blocks(list: &mut [i32]) -> u32
-    ensures { λ r. ⌜ r ≡ answer (2 unless eqb (length (now (list .entry)) % 16) 0 ∷ 8 unless allInRange (now (list .entry)) ∷ []) ⌝ }
-    ensures { λ r. ⌜ now (list .exit) ≡ written r (now (list .entry)) (inverseBlocks (now (list .entry))) ⌝ }
+// The residuals of each sixteen numbers of a list, at the same places. Residuals have sixteen bits, so that nobody need ask for their range again.
+pub fn inverse_blocks(list: &[i32], out: &mut [i16]) -> u32
+    ensures { λ r. ⌜ r ≡ answer (2 unless eqb (length (now (list .entry)) % 16) 0 ∷ 2 unless eqb (length (now (out .entry))) (length (now (list .entry)))
+        ∷ 8 unless allInRange (now (list .entry)) ∷ []) ⌝ }
+    ensures { λ r. ⌜ now (out .exit) ≡ written r (now (out .entry)) (inverseBlocks (now (list .entry))) ⌝ }
 {
     if list.len() % 16 != 0 {
+        return 2;
+    }
+    if out.len() != list.len() {
         return 2;
     }
     if !all_in_range(list) {
         return 8;
     }
-    invert_all(list);
+    invert_all(list, out);
     0
 }
 
 // The same of a list that passes.
-fn invert_all(list: &mut [i32])
-    requires { ⌜ (length (now list) % 16 ≡ 0) × (allInRange (now list) ≡ true) ⌝ }
-    ensures { λ _. ⌜ now (list .exit) ≡ inverseBlocks (now (list .entry)) ⌝ }
+fn invert_all(list: &[i32], out: &mut [i16])
+    requires { ⌜ (length (now list) % 16 ≡ 0) × (length (now out) ≡ length (now list)) × (allInRange (now list) ≡ true) ⌝ }
+    ensures { λ _. ⌜ now (out .exit) ≡ inverseBlocks (now (list .entry)) ⌝ }
 {
     let n = list.len() / 16;
     for b in 0..n {
-        invert(&mut list[16 * b..]);
+        invert(&list[16 * b..], &mut out[16 * b..]);
     }
 }
 
 // The residuals of sixteen coefficients that are in range.
-pub(crate) fn inverse_core(deq: &[i32]) -> [i32; 16]
+pub(crate) fn inverse_core(deq: &[i32]) -> [i16; 16]
     requires { ⌜ (length (now deq) ≡ 16) × (allInRange (now deq) ≡ true) ⌝ }
     ensures { λ r. ⌜ r ≡ inverse4x4 (now (deq .entry)) ⌝ }
 {
-    let mut res = [0i32; 16];
-    for k in 0..16 {
-        res[k] = deq[k];
-    }
-    invert(&mut res);
+    let mut res = [0i16; 16];
+    invert(deq, &mut res);
     res
 }
 
-// The first sixteen numbers of a list, transformed where they stand: four rows, then four columns.
-fn invert(d: &mut [i32])
-    requires { ⌜ (16 ≤ length (now d)) × ((k : ℕ) → k < 16 → Within 32768 (at (now d) k)) ⌝ }
-    ensures { λ _. ⌜ now (d .exit) ≡ inverse4x4 (now (d .entry)) ++ drop 16 (now (d .entry)) ⌝ }
+// Sixteen residuals as wider numbers.
+pub(crate) fn widened(res: &[i16]) -> [i32; 16]
+    requires { ⌜ length (now res) ≡ 16 ⌝ }
+    ensures { λ r. ⌜ r ≡ now (res .entry) ⌝ }
+{
+    let mut wide = [0i32; 16];
+    for k in 0..16 {
+        wide[k] = res[k] as i32;
+    }
+    wide
+}
+
+// The residuals of the first sixteen numbers of a list over the first sixteen places of `out`: four rows, then four columns.
+fn invert(d: &[i32], out: &mut [i16])
+    requires { ⌜ (16 ≤ length (now d)) × (16 ≤ length (now out)) × ((k : ℕ) → k < 16 → Within 32768 (at (now d) k)) ⌝ }
+    ensures { λ _. ⌜ now (out .exit) ≡ inverse4x4 (now (d .entry)) ++ drop 16 (now (out .entry)) ⌝ }
 {
     let f0 = row(d, 0);
     let f1 = row(d, 1);
@@ -88,10 +101,10 @@ fn invert(d: &mut [i32])
     let h1 = column(f0, f1, f2, f3, 1);
     let h2 = column(f0, f1, f2, f3, 2);
     let h3 = column(f0, f1, f2, f3, 3);
-    put_row(d, 0, h0, h1, h2, h3);
-    put_row(d, 1, h0, h1, h2, h3);
-    put_row(d, 2, h0, h1, h2, h3);
-    put_row(d, 3, h0, h1, h2, h3);
+    put_row(out, 0, h0, h1, h2, h3);
+    put_row(out, 1, h0, h1, h2, h3);
+    put_row(out, 2, h0, h1, h2, h3);
+    put_row(out, 3, h0, h1, h2, h3);
 }
 
 // Row `i` of the coefficients, transformed.
@@ -105,18 +118,20 @@ fn row(d: &[i32], i: usize) -> [i32; 4]
 }
 
 // Column `j` of four transformed rows, transformed and rounded.
-fn column(f0: [i32; 4], f1: [i32; 4], f2: [i32; 4], f3: [i32; 4], j: usize) -> [i32; 4]
+fn column(f0: [i32; 4], f1: [i32; 4], f2: [i32; 4], f3: [i32; 4], j: usize) -> [i16; 4]
     requires { ⌜ AllWithin 131072 f0 × AllWithin 131072 f1 × AllWithin 131072 f2 × AllWithin 131072 f3 × (j < 4) ⌝ }
     ensures { λ r. ⌜ r ≡ map rounded (oneDimensional (at f0 j) (at f1 j) (at f2 j) (at f3 j)) ⌝ }
-    ensures { λ r. ⌜ AllWithin 32768 r ⌝ }
 {
     let h = one_dimensional(f0[j], f1[j], f2[j], f3[j]);
-    [
-        (h[0] + 32) >> 6,
-        (h[1] + 32) >> 6,
-        (h[2] + 32) >> 6,
-        (h[3] + 32) >> 6,
-    ]
+    [round(h[0]), round(h[1]), round(h[2]), round(h[3])]
+}
+
+// A number of the second pass, rounded to a residual.
+fn round(h: i32) -> i16
+    requires { ⌜ Within 524288 h ⌝ }
+    ensures { λ r. ⌜ r ≡ rounded h ⌝ }
+{
+    ((h + 32) >> 6) as i16
 }
 
 // The one-dimensional transformation of four numbers.
@@ -133,14 +148,14 @@ fn one_dimensional(d0: i32, d1: i32, d2: i32, d3: i32) -> [i32; 4]
 }
 
 // Row `i` of a block put from its four columns.
-fn put_row(d: &mut [i32], i: usize, h0: [i32; 4], h1: [i32; 4], h2: [i32; 4], h3: [i32; 4])
-    requires { ⌜ (16 ≤ length (now d)) × (i < 4) × AllWithin 32768 h0 × AllWithin 32768 h1 × AllWithin 32768 h2 × AllWithin 32768 h3 ⌝ }
-    ensures { λ _. ⌜ ((l : List ℤ) → length l ≡ length (now (d .entry)) → now (d .entry) ≡ onto (4 * i) (placeIn h0 h1 h2 h3) l
-        → now (d .exit) ≡ onto (4 * i + 4) (placeIn h0 h1 h2 h3) l) ⌝ }
+fn put_row(out: &mut [i16], i: usize, h0: [i16; 4], h1: [i16; 4], h2: [i16; 4], h3: [i16; 4])
+    requires { ⌜ (16 ≤ length (now out)) × (i < 4) ⌝ }
+    ensures { λ _. ⌜ ((l : List ℤ) → length l ≡ length (now (out .entry)) → now (out .entry) ≡ onto (4 * i) (placeIn h0 h1 h2 h3) l
+        → now (out .exit) ≡ onto (4 * i + 4) (placeIn h0 h1 h2 h3) l) ⌝ }
 {
     let k = 4 * i;
-    d[k] = h0[i];
-    d[k + 1] = h1[i];
-    d[k + 2] = h2[i];
-    d[k + 3] = h3[i];
+    out[k] = h0[i];
+    out[k + 1] = h1[i];
+    out[k + 2] = h2[i];
+    out[k + 3] = h3[i];
 }

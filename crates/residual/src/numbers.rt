@@ -1,7 +1,11 @@
 // The numbers that may be given: coefficients, residuals and predictions in -32768..32767.
 ghost use mathlib.Core.Path.{_≡_};
-ghost use mathlib.Core.Bool.{cond};
+ghost use mathlib.Core.Bool.{true, cond};
+ghost use mathlib.Core.List.{[], _∷_};
+ghost use lib.Dec.{eqb};
+ghost use lib.ListN.{length};
 ghost use lib.Signed.{ltZ};
+ghost use Rattle.laws.specs.Answer.{_unless_, answer, written};
 ghost use Rattle.residual.specs.Numbers.{inRange, allInRange};
 
 // Whether every number of `s` lies in that range, by the least and the greatest of them: a loop without a way out is computed side by side.
@@ -30,7 +34,40 @@ fn greatest(a: i32, b: i32) -> i32
     if a < b { b } else { a }
 }
 
-// Whether `v` does.
+// The numbers of a list as residuals, which have sixteen bits.
+pub fn narrow_all(list: &[i32], out: &mut [i16]) -> u32
+    ensures { λ r. ⌜ r ≡ answer (2 unless eqb (length (now (out .entry))) (length (now (list .entry))) ∷ 8 unless allInRange (now (list .entry)) ∷ []) ⌝ }
+    ensures { λ r. ⌜ now (out .exit) ≡ written r (now (out .entry)) (now (list .entry)) ⌝ }
+{
+    if out.len() != list.len() {
+        return 2;
+    }
+    if !all_in_range(list) {
+        return 8;
+    }
+    narrow_list(list, out);
+    0
+}
+
+// The same of a list that passes.
+fn narrow_list(list: &[i32], out: &mut [i16])
+    requires { ⌜ (length (now out) ≡ length (now list)) × (allInRange (now list) ≡ true) ⌝ }
+    ensures { λ _. ⌜ now (out .exit) ≡ now (list .entry) ⌝ }
+{
+    let n = list.len();
+    for k in 0..n {
+        out[k] = list[k] as i16;
+    }
+}
+
+// A number in range as a residual, and 0 for another.
+pub(crate) fn narrow(v: i32) -> i16
+    ensures { λ r. ⌜ (inRange v ≡ true → r ≡ v) ⌝ }
+{
+    if in_range(v) { v as i16 } else { 0 }
+}
+
+// Whether `v` is in range.
 pub(crate) fn in_range(v: i32) -> bool
     ensures { λ r. ⌜ r ≡ inRange v ⌝ }
 {

@@ -4,7 +4,7 @@ ghost use mathlib.Core.Bool.{true, _&&_};
 ghost use mathlib.Core.List.{List, [], _∷_};
 ghost use Prim.Native.Nat.{ℕ, _+_, _*_, _≤_};
 ghost use lib.Dec.{eqb, leb};
-ghost use lib.IntN.{pos, _+ℤ_};
+ghost use lib.IntN.{ℤ, pos, _+ℤ_};
 ghost use lib.ListN.{length, replicate};
 ghost use Rattle.laws.specs.Answer.{_unless_, answer, written};
 ghost use Rattle.laws.specs.Range.{Within, AllWithin};
@@ -15,8 +15,11 @@ ghost use Rattle.residual.specs.Reconstruct.{sums, putSquare, sumIn, row
 ghost use Rattle.residual.specs.inner.Sums.{summed};
 use super::clip::clip_u8;
 use super::inverse::inverse_core;
+use super::inverse::widened;
 use super::numbers::all_in_range;
 use super::numbers::in_range;
+use super::numbers::narrow;
+use super::numbers::narrow_all;
 
 pub struct Block4x4 {
     pub answer: u32,
@@ -39,7 +42,7 @@ pub fn reconstruct_4x4(dequant: &[i32; 16], pred: &[i32; 16]) -> Block4x4
             block: [0; 16],
         };
     }
-    let res = inverse_core(dequant);
+    let res = widened(&inverse_core(dequant));
     let mut block = [0u8; 16];
     add_clipped(&res, pred, &mut block);
     Block4x4 {
@@ -124,15 +127,17 @@ pub fn reconstruct_4x4_into(
     ensures { λ r. ⌜ now (rec .exit)
         ≡ written r (now (rec .entry)) (putSquare 4 «r_off» «r_stride» (sumIn 4 (inverse4x4 (now (deq .entry))) (now (pred .entry)) «p_off» «p_stride») (now (rec .entry))) ⌝ }
 {
-    let p_len = pred.len();
-    let r_len = rec.len();
     let numbers = all_in_range(deq);
-    let refusal = into_answer(numbers, p_len, p_off, p_stride, r_len, r_off, r_stride);
-    if refusal == 0 {
-        let res = inverse_core(deq);
-        put_rows(1, &res, pred, p_off, p_stride, rec, r_off, r_stride);
-    }
-    refusal
+    let res = inverse_if(numbers, deq);
+    put_checked(numbers, &res, pred, p_off, p_stride, rec, r_off, r_stride)
+}
+
+// The residuals of coefficients that are in range, and zeros for others.
+fn inverse_if(numbers: bool, deq: &[i32; 16]) -> [i16; 16]
+    requires { ⌜ (numbers ≡ true → allInRange (now deq) ≡ true) ⌝ }
+    ensures { λ r. ⌜ (numbers ≡ true → r ≡ inverse4x4 (now (deq .entry))) ⌝ }
+{
+    if numbers { inverse_core(deq) } else { [0; 16] }
 }
 
 // The same where all sixteen residuals are `rval`.
@@ -149,8 +154,8 @@ pub fn reconstruct_4x4_dc_into(
     ensures { λ r. ⌜ now (rec .exit)
         ≡ written r (now (rec .entry)) (putSquare 4 «r_off» «r_stride» (sumIn 4 (replicate 16 rval) (now (pred .entry)) «p_off» «p_stride») (now (rec .entry))) ⌝ }
 {
-    let res = [rval; 16];
     let numbers = in_range(rval);
+    let res = [narrow(rval); 16];
     put_checked(numbers, &res, pred, p_off, p_stride, rec, r_off, r_stride)
 }
 
@@ -168,14 +173,24 @@ pub fn add_residual_4x4_into(
     ensures { λ r. ⌜ now (rec .exit)
         ≡ written r (now (rec .entry)) (putSquare 4 «r_off» «r_stride» (sumIn 4 (now (res .entry)) (now (pred .entry)) «p_off» «p_stride») (now (rec .entry))) ⌝ }
 {
-    let numbers = all_in_range(res);
-    put_checked(numbers, res, pred, p_off, p_stride, rec, r_off, r_stride)
+    let mut narrowed = [0i16; 16];
+    let numbers = narrow_all(res, &mut narrowed) == 0;
+    put_checked(
+        numbers,
+        &narrowed,
+        pred,
+        p_off,
+        p_stride,
+        rec,
+        r_off,
+        r_stride,
+    )
 }
 
-// A block of side 4m in the same way, from residuals in raster order: any residuals, since their sums are clipped from both sides.
+// A block of side 4m in the same way, m from 1 to 4, from residuals of sixteen bits in raster order: no such number is out of range.
 pub fn add_residual_into(
     m: usize,
-    res: &[i32],
+    res: &[i16],
     pred: &[u8],
     p_off: usize,
     p_stride: usize,
@@ -183,11 +198,14 @@ pub fn add_residual_into(
     r_off: usize,
     r_stride: usize,
 ) -> u32
-    ensures { λ r. ⌜ r ≡ answer (2 unless (leb m 4 && eqb (length (now (res .entry))) (4 * m * (4 * m))
-        && intoRoom (4 * m) (length (now (pred .entry))) «p_off» «p_stride» (length (now (rec .entry))) «r_off» «r_stride») ∷ []) ⌝ }
-    ensures { λ r. ⌜ now (rec .exit)
-        ≡ written r (now (rec .entry)) (putSquare (4 * m) «r_off» «r_stride» (sumIn (4 * m) (now (res .entry)) (now (pred .entry)) «p_off» «p_stride») (now (rec .entry))) ⌝ }
+    ensures { λ r. ⌜ r ≡ answer (2 unless (leb 1 m && leb m 4) ∷ 2 unless eqb (length (now (res .entry))) (4 * m * (4 * m))
+        ∷ 2 unless intoRoom (4 * m) (length (now (pred .entry))) «p_off» «p_stride» (length (now (rec .entry))) «r_off» «r_stride» ∷ []) ⌝ }
+    ensures { λ r. ⌜ now (rec .exit) ≡ written r (now (rec .entry))
+        (putSquare (4 * m) «r_off» «r_stride» (sumIn (4 * m) (now (res .entry)) (now (pred .entry)) «p_off» «p_stride») (now (rec .entry))) ⌝ }
 {
+    if m < 1 {
+        return 2;
+    }
     if m > 4 {
         return 2;
     }
@@ -209,10 +227,11 @@ pub fn add_residual_into(
     0
 }
 
-// What the two calls before it share: the answer, and the sums where it is 0. `numbers` says whether the residuals are in range.
+// What the three calls on sixteen numbers share: the answer, and the sums where it is 0. `numbers` says whether the numbers are in range, and only
+// then `res` must be their residuals.
 fn put_checked(
     numbers: bool,
-    res: &[i32; 16],
+    res: &[i16; 16],
     pred: &[u8],
     p_off: usize,
     p_stride: usize,
@@ -221,8 +240,8 @@ fn put_checked(
     r_stride: usize,
 ) -> u32
     ensures { λ r. ⌜ r ≡ intoAnswer numbers (length (now (pred .entry))) «p_off» «p_stride» (length (now (rec .entry))) «r_off» «r_stride» ⌝ }
-    ensures { λ r. ⌜ now (rec .exit)
-        ≡ written r (now (rec .entry)) (putSquare 4 «r_off» «r_stride» (sumIn 4 (now (res .entry)) (now (pred .entry)) «p_off» «p_stride») (now (rec .entry))) ⌝ }
+    ensures { λ r. ⌜ ((l : List ℤ) → (numbers ≡ true → now (res .entry) ≡ l) → now (rec .exit)
+        ≡ written r (now (rec .entry)) (putSquare 4 «r_off» «r_stride» (sumIn 4 l (now (pred .entry)) «p_off» «p_stride») (now (rec .entry)))) ⌝ }
 {
     let p_len = pred.len();
     let r_len = rec.len();
@@ -264,7 +283,7 @@ fn into_room(
     r_off: usize,
     r_stride: usize,
 ) -> bool
-    requires { ⌜ n ≤ 16 ⌝ }
+    requires { ⌜ (1 ≤ n) × (n ≤ 16) ⌝ }
     ensures { λ r. ⌜ r ≡ intoRoom n «p_len» «p_off» «p_stride» «r_len» «r_off» «r_stride» ⌝ }
 {
     if p_stride > 4096 {
@@ -284,12 +303,9 @@ fn into_room(
 
 // Whether n rows of n bytes from `off` on lie in `len` bytes.
 fn rows_in(n: usize, len: usize, off: usize, stride: usize) -> bool
-    requires { ⌜ (n ≤ 16) × (stride ≤ 4096) ⌝ }
+    requires { ⌜ (1 ≤ n) × (n ≤ 16) × (stride ≤ 4096) ⌝ }
     ensures { λ r. ⌜ r ≡ rowsIn n len off stride ⌝ }
 {
-    if n < 1 {
-        return off <= len;
-    }
     let rows = (n - 1) * stride + n;
     if rows > len {
         return false;
@@ -300,7 +316,7 @@ fn rows_in(n: usize, len: usize, off: usize, stride: usize) -> bool
 // The sums put into the plane, each row through its own part.
 fn put_rows(
     m: usize,
-    res: &[i32],
+    res: &[i16],
     pred: &[u8],
     p_off: usize,
     p_stride: usize,
@@ -326,7 +342,7 @@ fn put_rows(
 }
 
 // The first 4m bytes of a row, from places `k` and `p` on.
-fn put_row(m: usize, res: &[i32], k: usize, pred: &[u8], p: usize, row: &mut [u8])
+fn put_row(m: usize, res: &[i16], k: usize, pred: &[u8], p: usize, row: &mut [u8])
     requires { ⌜ (m ≤ 4) × (k + 4 * m ≤ length (now res)) × (p + 4 * m ≤ length (now pred)) × (4 * m ≤ length (now row)) ⌝ }
     ensures { λ _. ⌜ now (row .exit) ≡ summed (now (res .entry)) k (now (pred .entry)) p (4 * m) (now (row .entry)) ⌝ }
 {
@@ -336,7 +352,7 @@ fn put_row(m: usize, res: &[i32], k: usize, pred: &[u8], p: usize, row: &mut [u8
 }
 
 // Four bytes of a row from `x` on. All four are read before one is written: the compiled code then takes them side by side.
-fn put_four(res: &[i32], k: usize, pred: &[u8], p: usize, x: usize, row: &mut [u8])
+fn put_four(res: &[i16], k: usize, pred: &[u8], p: usize, x: usize, row: &mut [u8])
     requires { ⌜ (k + x + 4 ≤ length (now res)) × (p + x + 4 ≤ length (now pred)) × (x + 4 ≤ length (now row)) ⌝ }
     ensures { λ _. ⌜ ((l : List ℕ) → now (row .entry) ≡ summed (now (res .entry)) k (now (pred .entry)) p x l
         → now (row .exit) ≡ summed (now (res .entry)) k (now (pred .entry)) p (x + 4) l) ⌝ }
@@ -351,22 +367,9 @@ fn put_four(res: &[i32], k: usize, pred: &[u8], p: usize, x: usize, row: &mut [u
     row[x + 3] = d;
 }
 
-// The clipped sum of a sample and any residual.
-fn sum_of(p: u8, r: i32) -> u8
+// The clipped sum of a sample and a residual.
+fn sum_of(p: u8, r: i16) -> u8
     ensures { λ s. ⌜ s ≡ Clip1 (pos p +ℤ r) ⌝ }
 {
-    clip_u8(p as i32 + bounded(r))
-}
-
-// A residual brought into -255..255, which leaves its clipped sum with any sample as it is.
-fn bounded(r: i32) -> i32
-    ensures { λ b. ⌜ Within 255 b × ((p : ℕ) → p ≤ 255 → Clip1 (pos p +ℤ b) ≡ Clip1 (pos p +ℤ r)) ⌝ }
-{
-    if r < -255 {
-        return -255;
-    }
-    if r > 255 {
-        return 255;
-    }
-    r
+    clip_u8(p as i32 + r as i32)
 }

@@ -1,4 +1,4 @@
--- `samples::clip::clip_u8` meets its contract: the two tests are those of the definition. Assumes nothing.
+-- `residual::clip::clip_u8` meets its contract: the two tests are those of the definition. Assumes nothing.
 use mir.Facts.{toZ-ofZ}
 use Rattle.laws.proofs.Ints.{is-byte}
 use Rattle.residual.specs.Clip.{Clip1}

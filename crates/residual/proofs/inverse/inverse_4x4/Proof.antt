@@ -1,4 +1,4 @@
--- `samples::inverse::inverse_4x4` meets its contract: it refuses what its test refuses. Assumes nothing.
+-- `residual::inverse::inverse_4x4` meets its contract: it refuses what its test refuses. Assumes nothing.
 use mathlib.Core.Path.{refl, sym, _∙_}
 use borrow.Author.Tests.{not-true, not-false}
 use borrow.Author.Needs.{needs}
@@ -12,7 +12,11 @@ inverse-core-requires : tie.Need-inverse-core-requires
 inverse-core-requires c κs = let d = c .before in (search needs, sym (d .before .all-in-range .ensures) ∙ not-false _ (d .if1 .left))
 
 returns-2 : tie.Need-returns-2
-returns-2 c = let d = c .before .before in let e = sym (d .before .all-in-range .ensures) ∙ not-false _ (d .if1 .left) in (rw e, c .inverse-core .ensures)
+returns-2 c =
+    let i = c .before .before in
+    let d = i .before .before in
+    let e = sym (d .before .all-in-range .ensures) ∙ not-false _ (d .if1 .left) in
+    (rw e, c .widened .ensures ∙ i .inverse-core .ensures)
 
 pub inverse-4x4-spec : {M : Type 1} → statement M
 inverse-4x4-spec =
@@ -21,4 +25,6 @@ inverse-4x4-spec =
     (λ c κs. search needs)
     returns
     inverse-core-requires
+    (λ c. search needs)
+    (λ c κs. search needs)
     returns-2)

@@ -1,37 +1,32 @@
--- `samples::inverse::invert` meets its contract: its rows and columns are the definition's, and its four rows are put one after the other. Assumes nothing.
+-- `residual::inverse::invert` meets its contract: its rows and columns are the definition's, and its four rows are put one after the other. Assumes nothing.
 use mathlib.Core.Path.{_≡_, refl, sym, ap, _∙_}
 use mathlib.Core.List.{List, _++_}
 use Prim.Native.Nat.{ℕ, _≤_}
 use native.Mathlib.Omega.{arith}
-use borrow.Author.Needs.{needs}
 use lib.Dec.{lit<, lit≤}
 use lib.IntN.{ℤ}
 use lib.ListN.{length, drop}
-use Rattle.laws.specs.Range.{AllWithin}
 use Rattle.laws.specs.Table.{onto}
 use Rattle.laws.proofs.Ontos.{onto-none, onto-long}
 use Rattle.residual.specs.inner.Sums.{placeIn}
 use Rattle.residual.proofs.Transform.{inverse-is}
+use borrow.Author.Needs.{needs}
 use Rattle.residual.proofs.inverse.invert.Statement.{statement}
 use Rattle.residual.proofs.inverse.invert.Tie as tie
 
--- the list at the start, and the residuals from the four columns
+-- `out` at the start, and the residuals from the four columns
 abbrev given : tie.After-column4 → List ℤ
-given c = c .before .before .before .before .before .before .before .before .before .before .before .before .args .d .now
+given c = c .before .before .before .before .before .before .before .before .args .out .now
 
 abbrev residuals : tie.After-column4 → ℕ → ℤ
 residuals c = placeIn (c .before .before .before .column .result) (c .before .before .column2 .result) (c .before .column3 .result) (c .column4 .result)
 
 long : (c : tie.After-column4) → 16 ≤ length (given c)
-long c = c .before .before .before .before .before .before .before .before .before .before .before .before .pre .0
+long c = c .before .before .before .before .before .before .before .before .pre .1
 
 -- a list whose first numbers are put has kept its length
 kept : (c : tie.After-column4) (n : ℕ) (l : List ℤ) → n ≤ 16 → l ≡ onto n (residuals c) (given c) → length l ≡ length (given c)
 kept c n l h e = onto-long n (residuals c) (given c) l (omega (arith, long c)) e
-
-bounded : (c : tie.After-column4)
-    → AllWithin 32768 (c .before .before .before .column .result) × AllWithin 32768 (c .before .before .column2 .result) × AllWithin 32768 (c .before .column3 .result) × AllWithin 32768 (c .column4 .result)
-bounded c = (c .before .before .before .column .ensures .1, c .before .before .column2 .ensures .1, c .before .column3 .ensures .1, c .column4 .ensures .1)
 
 -- the list after one, two, three and four rows
 one : (c : tie.After-put-row) → let k = c .before .before in c .put-row .last .0 ≡ onto 4 (residuals k) (given k)
@@ -57,25 +52,19 @@ four c =
     c .put-row4 .ensures (given k) (sym (kept k 12 _ (lit≤ tt) (three p))) (three p)
 
 put-row-requires-2 : tie.Need-put-row-requires-2
-put-row-requires-2 c κs =
-    let p = c .before .before in
-    let k = p .before .before in
-    let w = bounded k in
-    (omega (arith, long k, kept k 4 _ (lit≤ tt) (one p)), lit< tt, w .0, w .1, w .2, w .3)
+put-row-requires-2 c κs = let p = c .before .before in let k = p .before .before in (omega (arith, long k, kept k 4 _ (lit≤ tt) (one p)), lit< tt)
 
 put-row-requires-3 : tie.Need-put-row-requires-3
 put-row-requires-3 c κs =
     let p = c .before .before in
     let k = p .before .before .before .before .before in
-    let w = bounded k in
-    (omega (arith, long k, kept k 8 _ (lit≤ tt) (two p)), lit< tt, w .0, w .1, w .2, w .3)
+    (omega (arith, long k, kept k 8 _ (lit≤ tt) (two p)), lit< tt)
 
 put-row-requires-4 : tie.Need-put-row-requires-4
 put-row-requires-4 c κs =
     let p = c .before .before in
     let k = p .before .before .before .before .before .before .before .before in
-    let w = bounded k in
-    (omega (arith, long k, kept k 12 _ (lit≤ tt) (three p)), lit< tt, w .0, w .1, w .2, w .3)
+    (omega (arith, long k, kept k 12 _ (lit≤ tt) (three p)), lit< tt)
 
 returns : tie.Need-returns
 returns c =
@@ -85,13 +74,13 @@ returns c =
     let h1 = h2 .before in
     let h0 = h1 .before in
     let f3 = h0 .before in
-    let f2 = f3 .before .before in
-    let f1 = f2 .before .before in
-    let f0 = f1 .before .before in
+    let f2 = f3 .before in
+    let f1 = f2 .before in
+    let f0 = f1 .before in
     four p
     ∙ ap (λ l. l ++ drop 16 (given h3))
     (inverse-is _ _ _ _ _ _ _ _ _ (f0 .row .ensures .0) (f1 .row2 .ensures .0) (f2 .row3 .ensures .0) (f3 .row4 .ensures .0)
-    (h0 .column .ensures .0) (h1 .column2 .ensures .0) (h2 .column3 .ensures .0) (h3 .column4 .ensures .0))
+    (h0 .column .ensures) (h1 .column2 .ensures) (h2 .column3 .ensures) (h3 .column4 .ensures))
 
 pub invert-spec : {M : Type 1} → statement M
 invert-spec =

@@ -1,4 +1,4 @@
--- `samples::inverse::one_dimensional` meets its contract: every need is read off its expression by `ints`, and four numbers within k give four within 4 k.
+-- `residual::inverse::one_dimensional` meets its contract: every need is read off its expression by `ints`, and four numbers within k give four within 4 k.
 -- Assumes nothing.
 use Rattle.laws.proofs.Ints.{ints, four-is}
 use Rattle.residual.specs.Inverse.{oneDimensional}

@@ -1,4 +1,4 @@
--- `samples::inverse::row` meets its contract: the four numbers read are those of the definition. Assumes nothing.
+-- `residual::inverse::row` meets its contract: the four numbers read are those of the definition. Assumes nothing.
 use Prim.Native.Nat.{_+_, _*_}
 use native.Mathlib.Omega.{arith}
 use mir.Facts.{toZ-ofZ}

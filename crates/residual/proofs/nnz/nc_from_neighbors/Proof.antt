@@ -1,4 +1,4 @@
--- `samples::nnz::nc_from_neighbors` meets its contract, case by case as the definition. Assumes nothing.
+-- `residual::nnz::nc_from_neighbors` meets its contract, case by case as the definition. Assumes nothing.
 use mathlib.Core.Path.{_≡_, sym, ap₂, _∙_}
 use Prim.Native.Nat.{ℕ}
 use native.Mathlib.Omega.{arith}

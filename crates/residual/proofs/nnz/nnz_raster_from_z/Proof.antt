@@ -1,4 +1,4 @@
--- `samples::nnz::nnz_raster_from_z` meets its contract: the places written out are the definition's, computed. Assumes nothing.
+-- `residual::nnz::nnz_raster_from_z` meets its contract: the places written out are the definition's, computed. Assumes nothing.
 use mathlib.Core.Path.{refl}
 use Rattle.laws.specs.Table.{table}
 use Rattle.residual.specs.Nnz.{inRaster}

@@ -1,4 +1,4 @@
--- `samples::numbers::all_in_range` meets its contract. The invariant: the least and the greatest of the numbers passed tell what each of them tells.
+-- `residual::numbers::all_in_range` meets its contract. The invariant: the least and the greatest of the numbers passed tell what each of them tells.
 -- Assumes nothing.
 use mathlib.Core.Path.{_≡_, refl, sym, ap, ap₂, _∙_}
 use mathlib.Core.Bool.{true, false, _&&_}

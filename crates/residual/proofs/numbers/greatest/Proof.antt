@@ -1,4 +1,4 @@
--- `samples::numbers::greatest` meets its contract: its test is the definition's. Assumes nothing.
+-- `residual::numbers::greatest` meets its contract: its test is the definition's. Assumes nothing.
 use mir.Facts.{toZ-ofZ}
 use Rattle.residual.proofs.numbers.greatest.Statement.{statement}
 use Rattle.residual.proofs.numbers.greatest.Tie as tie

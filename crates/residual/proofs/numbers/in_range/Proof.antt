@@ -1,4 +1,4 @@
--- `samples::numbers::in_range` meets its contract: its two tests are the definition's. Assumes nothing.
+-- `residual::numbers::in_range` meets its contract: its two tests are the definition's. Assumes nothing.
 use mir.Facts.{toZ-ofZ}
 use Rattle.residual.specs.Numbers.{inRange}
 use Rattle.residual.proofs.numbers.in_range.Statement.{statement}

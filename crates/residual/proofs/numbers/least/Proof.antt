@@ -1,4 +1,4 @@
--- `samples::numbers::least` meets its contract: its test is the definition's. Assumes nothing.
+-- `residual::numbers::least` meets its contract: its test is the definition's. Assumes nothing.
 use mir.Facts.{toZ-ofZ}
 use Rattle.residual.proofs.numbers.least.Statement.{statement}
 use Rattle.residual.proofs.numbers.least.Tie as tie

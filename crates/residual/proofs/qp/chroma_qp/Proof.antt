@@ -1,4 +1,4 @@
--- `samples::qp::chroma_qp` meets its contract: its tests are the definition's, and its table is Table 8-15. Assumes nothing.
+-- `residual::qp::chroma_qp` meets its contract: its tests are the definition's, and its table is Table 8-15. Assumes nothing.
 use mathlib.Core.Path.{_≡_}
 use Prim.Native.Nat.{_-_, min}
 use native.Mathlib.Omega.{arith}

@@ -1,4 +1,4 @@
--- `samples::reconstruct::add_checked` meets its contract: it refuses what its test refuses, and else `add_clipped` fills the block. Assumes nothing.
+-- `residual::reconstruct::add_checked` meets its contract: it refuses what its test refuses, and else `add_clipped` fills the block. Assumes nothing.
 use mathlib.Core.Path.{_≡_, refl, sym, _∙_}
 use mathlib.Core.Bool.{true, _&&_}
 use borrow.Author.Tests.{not-true, not-false}

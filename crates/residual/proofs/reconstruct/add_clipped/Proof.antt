@@ -1,4 +1,4 @@
--- `samples::reconstruct::add_clipped` meets its contract. The invariant: the places passed hold the clipped sums. Assumes nothing.
+-- `residual::reconstruct::add_clipped` meets its contract. The invariant: the places passed hold the clipped sums. Assumes nothing.
 use mathlib.Core.Path.{refl, _∙_}
 use Prim.Native.Nat.{_≤_, _-_}
 use native.Mathlib.Omega.{arith}

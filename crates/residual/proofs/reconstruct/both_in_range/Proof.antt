@@ -1,4 +1,4 @@
--- `samples::reconstruct::both_in_range` meets its contract: it tests the one, and then the other. Assumes nothing.
+-- `residual::reconstruct::both_in_range` meets its contract: it tests the one, and then the other. Assumes nothing.
 use mathlib.Core.Path.{sym, _∙_}
 use borrow.Author.Tests.{not-true, not-false}
 use borrow.Author.Needs.{needs}

@@ -1,4 +1,4 @@
--- `samples::reconstruct::into_answer` meets its contract: it asks for room, and then for the numbers. Assumes nothing.
+-- `residual::reconstruct::into_answer` meets its contract: it asks for room, and then for the numbers. Assumes nothing.
 use mathlib.Core.Path.{sym, _∙_}
 use borrow.Author.Needs.{needs}
 use borrow.Author.Tests.{not-true, not-false}

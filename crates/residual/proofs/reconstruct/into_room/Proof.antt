@@ -1,4 +1,4 @@
--- `samples::reconstruct::into_room` meets its contract: its tests are the definition's, in its order. Assumes nothing.
+-- `residual::reconstruct::into_room` meets its contract: its tests are the definition's, in its order. Assumes nothing.
 use mathlib.Core.Path.{sym, _∙_}
 use native.Mathlib.Omega.{arith}
 use borrow.Author.Tests.{le-leb, lt-leb, not-true, not-false}

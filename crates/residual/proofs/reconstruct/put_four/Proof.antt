@@ -1,26 +1,29 @@
--- `samples::reconstruct::put_four` meets its contract: four sums, one after the other. Assumes nothing.
+-- `residual::reconstruct::put_four` meets its contract: four sums, one after the other. Assumes nothing.
 use mathlib.Core.Path.{_≡_}
-use mathlib.Core.List.{List}
-use Prim.Native.Nat.{ℕ, _+_, _<_}
+use Prim.Native.Nat.{ℕ, _+_}
 use native.Mathlib.Omega.{arith}
 use mir.Facts.{toZ-ofZ}
 use borrow.Author.Needs.{needs, sfits-of}
 use lib.IntN.{pos, _+ℤ_}
-use lib.ListN.{length, getD, set, length-set}
+use lib.ListN.{length, getD, length-set}
 use Rattle.laws.specs.Range.{at}
-use Rattle.laws.proofs.Patches.{front, front-more, length-front}
+use Rattle.laws.proofs.Patches.{front-next, length-front}
 use Rattle.residual.specs.Clip.{Clip1}
 use Rattle.residual.proofs.reconstruct.put_four.Statement.{statement}
 use Rattle.residual.proofs.reconstruct.put_four.Tie as tie
 
--- one sum more
-after : (c m : ℕ) (f : ℕ → ℕ) (l : List ℕ) {l′ : List ℕ} {v : ℕ} → m ≡ c + 1 → c < length l → l′ ≡ front f c l → v ≡ f c → set l′ c v ≡ front f m l
-after c m f l {l′} {v} e h p q = rw e (front-more f c v l l′ h q p)
+slice-write-row-2 : tie.Need-slice-write-row-2
+slice-write-row-2 c = simp length-set (omega arith)
+
+slice-write-row-3 : tie.Need-slice-write-row-3
+slice-write-row-3 c = simp length-set (omega arith)
+
+slice-write-row-4 : tie.Need-slice-write-row-4
+slice-write-row-4 c = simp length-set (omega arith)
 
 returns : tie.Need-returns
 returns c l e =
-    let d = c in
-    let k3 = d .before .before .before in
+    let k3 = c .before .before .before in
     let k2 = k3 .before .before .before in
     let k1 = k2 .before .before .before in
     let u = k1 .before .before .before .before .before in
@@ -28,13 +31,13 @@ returns c l e =
     let x = a .x in
     let f : ℕ → ℕ = λ i. Clip1 (pos (getD (a .pred .now) (a .p + i) 0) +ℤ at (a .res .now) (a .k + i)) in
     let long : length (a .row .now) ≡ length l = length-front f x l (a .row .now) e in
-    after (x + 3) (x + 4) f l (omega arith) (omega arith)
-    (after (x + 2) (x + 3) f l (omega arith) (omega arith)
-    (after (x + 1) (x + 2) f l (omega arith) (omega arith)
-    (after x (x + 1) f l (omega arith) (omega arith) e (simp (toZ-ofZ, sfits-of, k1 .before .sum-of-arg .given) at (k1 .sum-of .ensures)))
+    front-next (x + 3) (x + 4) f l (omega arith) (omega arith)
+    (front-next (x + 2) (x + 3) f l (omega arith) (omega arith)
+    (front-next (x + 1) (x + 2) f l (omega arith) (omega arith)
+    (front-next x (x + 1) f l (omega arith) (omega arith) e (simp (toZ-ofZ, sfits-of, k1 .before .sum-of-arg .given) at (k1 .sum-of .ensures)))
     (simp (toZ-ofZ, sfits-of, k2 .before .sum-of-arg2 .given) at (k2 .sum-of2 .ensures)))
     (simp (toZ-ofZ, sfits-of, k3 .before .sum-of-arg3 .given) at (k3 .sum-of3 .ensures)))
-    (simp (toZ-ofZ, sfits-of, d .before .sum-of-arg4 .given) at (d .sum-of4 .ensures))
+    (simp (toZ-ofZ, sfits-of, c .before .sum-of-arg4 .given) at (c .sum-of4 .ensures))
 
 pub put-four-spec : {M : Type 1} → statement M
 put-four-spec =
@@ -72,10 +75,10 @@ put-four-spec =
     (λ c κs. search needs)
     (λ c. search needs)
     (λ c. search needs)
-    (λ c. simp length-set (omega arith))
+    slice-write-row-2
     (λ c. search needs)
-    (λ c. simp length-set (omega arith))
+    slice-write-row-3
     (λ c. search needs)
-    (λ c. simp length-set (omega arith))
+    slice-write-row-4
     (λ c. search needs)
     returns)

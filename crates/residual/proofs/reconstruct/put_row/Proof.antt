@@ -1,4 +1,4 @@
--- `samples::reconstruct::put_row` meets its contract. The invariant: the first j times four sums are put. Assumes nothing.
+-- `residual::reconstruct::put_row` meets its contract. The invariant: the first j times four sums are put. Assumes nothing.
 use mathlib.Core.Path.{_≡_, ap, _∙_}
 use Prim.Native.Nat.{_+_, _*_, _-_, _≤_}
 use native.Mathlib.Omega.{arith}

@@ -1,4 +1,4 @@
--- `samples::reconstruct::put_rows` meets its contract. The invariant: the first y rows are put. Assumes nothing.
+-- `residual::reconstruct::put_rows` meets its contract. The invariant: the first y rows are put. Assumes nothing.
 use mathlib.Core.Path.{_≡_, ap, _∙_}
 use Prim.Native.Nat.{_*_, _-_, _≤_}
 use native.Mathlib.Omega.{arith}

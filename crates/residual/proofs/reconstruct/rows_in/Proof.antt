@@ -1,8 +1,7 @@
--- `samples::reconstruct::rows_in` meets its contract: the bytes that the rows take are taken off the length, not added to the offset, so that nothing wraps.
+-- `residual::reconstruct::rows_in` meets its contract: the bytes that the rows take are taken off the length, not added to the offset, so that nothing wraps.
 -- Assumes nothing.
-use mathlib.Core.Path.{_≡_, sym, ap, _∙_}
+use mathlib.Core.Path.{sym}
 use Prim.Native.Nat.{_+_, _*_, _-_}
-use native.Mathlib.Nat.{zero-mul}
 use native.Mathlib.Omega.{arith}
 use borrow.Author.Tests.{lt-leb}
 use lib.Dec.{leb, leb→le, le→leb}
@@ -12,19 +11,18 @@ use borrow.Author.Needs.{needs}
 use Rattle.residual.proofs.reconstruct.rows_in.Statement.{statement}
 use Rattle.residual.proofs.reconstruct.rows_in.Tie as tie
 
+mul-rows : tie.Need-mul-rows
+mul-rows c = let m = mul-most (c .args .n - 1) (c .args .stride) 15 4096 (omega arith) (omega arith) in omega arith
+
+add-rows : tie.Need-add-rows
+add-rows c = let m = mul-most (c .args .n - 1) (c .args .stride) 15 4096 (omega arith) (omega arith) in omega arith
+
 returns : tie.Need-returns
-returns c =
-    let a = c .before .args in
-    let none : a .n - 1 ≡ 0 = omega arith in
-    let flat : (a .n - 1) * a .stride ≡ 0 = ap (λ k. k * a .stride) none ∙ zero-mul (a .stride) in
-    ap (λ k. leb k (a .len)) (omega arith)
+returns c = let a = c .before .args in sym (lt-leb (a .off + (a .n - 1) * a .stride + a .n) (a .len) (omega arith))
 
 returns-2 : tie.Need-returns-2
-returns-2 c = let a = c .before .before .args in sym (lt-leb (a .off + (a .n - 1) * a .stride + a .n) (a .len) (omega arith))
-
-returns-3 : tie.Need-returns-3
-returns-3 c =
-    let a = c .before .before .args in
+returns-2 c =
+    let a = c .before .args in
     let rows = (a .n - 1) * a .stride + a .n in
     same-test (leb (a .off) (a .len - rows)) (leb (a .off + (a .n - 1) * a .stride + a .n) (a .len))
     (λ t. le→leb (a .off + (a .n - 1) * a .stride + a .n) (a .len) (omega (arith, leb→le (a .off) (a .len - rows) t)))
@@ -34,8 +32,8 @@ pub rows-in-spec : {M : Type 1} → statement M
 rows-in-spec =
     tie.close
     (tie.spec
+    (λ c. search needs)
+    mul-rows
+    add-rows
     returns
-    (λ c. let a = c .before .args in let m = mul-most (a .n - 1) (a .stride) 15 4096 (omega arith) (omega arith) in omega arith)
-    (λ c. let a = c .before .args in let m = mul-most (a .n - 1) (a .stride) 15 4096 (omega arith) (omega arith) in omega arith)
-    returns-2
-    returns-3)
+    returns-2)

@@ -1,0 +1,18 @@
+-- `residual::inverse::round` meets its contract: a number of the second pass, rounded, has sixteen bits. Assumes nothing.
+use mathlib.Core.Path.{_≡_, ap, _∙_}
+use lib.IntN.{ℤ}
+use mir.Syntax.{w16}
+use mir.Val.{SFits, toZ, ofZ}
+use Rattle.laws.proofs.Ints.{ints, back}
+use Rattle.residual.proofs.Transform.{round-short}
+use Rattle.residual.proofs.inverse.round.Statement.{statement}
+use Rattle.residual.proofs.inverse.round.Tie as tie
+
+cast-result : tie.Need-cast-result
+cast-result c = round-short (c .args .h) (c .pre) .0
+
+returns : tie.Need-returns
+returns c = round-short (c .args .h) (c .pre) .1
+
+pub round-spec : {M : Type 1} → statement M
+round-spec = tie.close (tie.spec (λ c. search ints depth 20) cast-result returns)
