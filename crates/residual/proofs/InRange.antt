@@ -5,15 +5,14 @@ use mathlib.Core.List.{List, [], _∷_}
 use Prim.Native.Nat.{ℕ, zero, suc, _+_, _<_, _≤_}
 use native.Mathlib.Numerals.{add-one}
 use native.Mathlib.Omega.{arith}
-use borrow.Author.Tests.{eq-eqb, le-leb, leb-true}
-use lib.Dec.{eqb, leb}
+use borrow.Author.Tests.{le-leb, leb-true}
+use lib.Dec.{leb}
 use lib.IntN.{ℤ, pos, negsuc}
 use lib.ListN.{length}
 use lib.Signed.{leZ, ltZ}
 use mir.Facts.{toZ-ofZ}
 use mir.Syntax.{w16, w32}
 use mir.Val.{SFits, toZ, ofZ}
-use Rattle.laws.specs.Answer.{_unless_, answer}
 use Rattle.laws.specs.Range.{Within, AllWithin, at, minus}
 use Rattle.laws.specs.Table.{allBelow}
 use Rattle.laws.proofs.Ints.{up, dn, lt-parts, ge-parts}
@@ -61,11 +60,6 @@ unfolding inRange allInRange
 all-false [] k e = e
 all-false (z ∷ s) zero e = rw e
 all-false (z ∷ s) (suc k) e = and-no (inRange z) (allInRange s) (all-false s k e)
-
--- the answer of a call that refuses lists of different lengths and numbers out of range, where the lengths are the same
-pub answer-tells : (m n : ℕ) (t : Bool) → m ≡ n → eqb (answer (2 unless eqb m n ∷ 8 unless t ∷ [])) 0 ≡ t
-answer-tells m n true e = rw (eq-eqb m n e)
-answer-tells m n false e = rw (eq-eqb m n e)
 
 -- ---- what is at most the less of two numbers, and what the greater is at most
 le-parts : (x y : ℤ) → leZ x y ≡ true → up x + dn y ≤ up y + dn x

@@ -1,16 +1,20 @@
--- The room and the answer of the calls that write into a plane, as tests and as facts. Assumes nothing.
-use mathlib.Core.Path.{_≡_}
-use mathlib.Core.Bool.{Bool, true, _&&_}
-use mathlib.Core.List.{[], _∷_}
-use Prim.Native.Nat.{ℕ, _+_, _-_, _*_, _<_, _≤_}
+-- The answers of the calls on lists and of those that write into a plane, and the room of the latter, as tests and as facts. Assumes nothing.
+use mathlib.Core.Path.{_≡_, refl, sym, ap, _∙_}
+use mathlib.Core.Bool.{Bool, true, false, cond, _&&_}
+use mathlib.Core.List.{List, [], _∷_}
+use Prim.Native.Nat.{ℕ, _+_, _-_, _*_, _%_, _<_, _≤_}
 use native.Mathlib.Nat.{mul-le-mul-right}
 use native.Mathlib.Omega.{arith}
-use borrow.Author.Tests.{le-leb, leb-true}
-use lib.Dec.{leb}
-use Rattle.laws.specs.Answer.{_unless_}
+use borrow.Author.Tests.{eq-eqb, eqb-true, le-leb, leb-true}
+use lib.Dec.{eqb, leb}
+use lib.IntN.{ℤ}
+use lib.ListN.{length}
+use Rattle.laws.specs.Answer.{_unless_, answer}
 use Rattle.laws.proofs.Answers.{passes}
 use Rattle.laws.proofs.Tests.{and-left, and-right, and-both, and-of}
-use Rattle.residual.specs.Reconstruct.{rowsIn, intoRoom, intoAnswer}
+use Rattle.residual.specs.Inverse.{inverseAnswer}
+use Rattle.residual.specs.Numbers.{allInRange}
+use Rattle.residual.specs.Reconstruct.{rowsIn, intoRoom, sumsAnswer}
 
 -- row y of the prediction and of the written block of side n lie in their buffers
 pub record Room (n predLen predOff predStride recLen recOff recStride y : ℕ) : Type 0 where
@@ -38,11 +42,50 @@ unfolding intoRoom
 room-of n pl po ps rl ro rs a b c p r =
     and-of (and-of (and-of (and-of (le-leb ps 4096 a) (le-leb n rs b)) (le-leb rs 4096 c)) (le-leb (po + (n - 1) * ps + n) pl p)) (le-leb (ro + (n - 1) * rs + n) rl r)
 
--- a call with room and numbers in range answers 0, and that is what the answer 0 says
-pub accepted : {numbers : Bool} (pl po ps rl ro rs : ℕ) → intoRoom 4 pl po ps rl ro rs ≡ true → numbers ≡ true → intoAnswer numbers pl po ps rl ro rs ≡ 0
-accepted {numbers} pl po ps rl ro rs e f = rw (e, f)
+-- ---- the answer of a call into a plane, from the answer for its numbers alone
+module _ {list : ℕ} (sixteen numbers room : Bool) (e : list ≡ answer (2 unless sixteen ∷ 8 unless numbers ∷ [])) where
+  pub no-list : list ≡ 2 → 2 ≡ answer (2 unless sixteen ∷ 2 unless room ∷ 8 unless numbers ∷ [])
+  no-list two = go sixteen numbers (sym two ∙ e)
+    where
+      go : (s n : Bool) → 2 ≡ answer (2 unless s ∷ 8 unless n ∷ []) → 2 ≡ answer (2 unless s ∷ 2 unless room ∷ 8 unless n ∷ [])
+      go true true z = absurd (omega arith)
+      go true false z = absurd (omega arith)
+      go false n z = refl
 
-pub passed : (numbers : Bool) (pl po ps rl ro rs : ℕ) → intoAnswer numbers pl po ps rl ro rs ≡ 0 → (intoRoom 4 pl po ps rl ro rs ≡ true) × (numbers ≡ true)
-passed numbers pl po ps rl ro rs e =
-    let p = passes 1 (intoRoom 4 pl po ps rl ro rs) (8 unless numbers ∷ []) e in
-    (p .0, passes 7 numbers [] (p .1) .0)
+  pub no-room : room ≡ false → 2 ≡ answer (2 unless sixteen ∷ 2 unless room ∷ 8 unless numbers ∷ [])
+  no-room r = rw r (go sixteen)
+    where
+      go : (s : Bool) → _≡_ {A = ℕ} 2 (cond s 2 2)
+      go true = refl
+      go false = refl
+
+  pub in-room : room ≡ true → list ≡ answer (2 unless sixteen ∷ 2 unless room ∷ 8 unless numbers ∷ [])
+  in-room r = rw r e
+
+-- ---- the answer of a call on lists
+pub summable : (n : ℕ) (a b : List ℤ) (m : ℕ) → sumsAnswer n a b m ≡ 0 → (length a ≡ n) × (length b ≡ n) × (m ≡ n) × (allInRange a && allInRange b ≡ true)
+summable n a b m e =
+    let last = 8 unless (allInRange a && allInRange b) ∷ [] in
+    let p = passes 1 (eqb (length a) n) (2 unless eqb (length b) n ∷ 2 unless eqb m n ∷ last) e in
+    let q = passes 1 (eqb (length b) n) (2 unless eqb m n ∷ last) (p .1) in
+    let r = passes 1 (eqb m n) last (q .1) in
+    (eqb-true (length a) n (p .0), eqb-true (length b) n (q .0), eqb-true m n (r .0), passes 7 (allInRange a && allInRange b) [] (r .1) .0)
+
+-- the same of arrays, whose lengths are right
+pub sums-array : (n : ℕ) (a b : List ℤ) → length a ≡ n → length b ≡ n → sumsAnswer n a b n ≡ answer (8 unless (allInRange a && allInRange b) ∷ [])
+sums-array n a b e f = rw (eq-eqb (length a) n e, eq-eqb (length b) n f, eq-eqb n n refl)
+
+pub inverse-array : (d : List ℤ) → length d ≡ 16 → inverseAnswer d 16 ≡ answer (8 unless allInRange d ∷ [])
+inverse-array d e = rw (eq-eqb (length d) 16 e)
+
+-- the answer for the blocks of a list, where one block is asked for
+pub one-block : (n : ℕ) (t : Bool) → answer (2 unless eqb (n % 16) 0 ∷ 2 unless eqb n 16 ∷ 8 unless t ∷ []) ≡ answer (2 unless eqb n 16 ∷ 8 unless t ∷ [])
+one-block n t = go (eqb n 16) refl
+  where
+    go : (b : Bool) → eqb n 16 ≡ b → answer (2 unless eqb (n % 16) 0 ∷ 2 unless b ∷ 8 unless t ∷ []) ≡ answer (2 unless b ∷ 8 unless t ∷ [])
+    go true e = let z : n % 16 ≡ 0 = ap (λ m. m % 16) (eqb-true n 16 e) in rw (eq-eqb (n % 16) 0 z)
+    go false e = both (eqb (n % 16) 0)
+      where
+        both : (b : Bool) → cond {A = ℕ} b 2 2 ≡ 2
+        both true = refl
+        both false = refl

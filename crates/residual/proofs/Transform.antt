@@ -3,6 +3,7 @@ use mathlib.Core.Path.{_≡_, sym, ap, ap₂, _∙_, subst}
 use mathlib.Core.Bool.{true}
 use mathlib.Core.List.{List, [], _∷_, _++_, map}
 use Prim.Native.Nat.{ℕ, zero, suc, _+_, _-_, _*_, _/_, _%_, _<_, _≤_}
+use native.Mathlib.Nat.{zero-add}
 use native.Mathlib.Omega.{arith}
 use borrow.Rule.Slice.PartMut.{putMid, midOf}
 use lib.IntN.{ℤ, pos, negℤ, _+ℤ_, _-ℤ_}
@@ -18,7 +19,7 @@ use Rattle.laws.specs.Table.{table, blockOf, onto}
 use Rattle.laws.proofs.Ints.{ints, within-more, within-neg, within-shr, within-short, within-table, abs-add, parts-abs, parts-shr, four-is, back}
 use Rattle.laws.proofs.Ontos.{onto-long, onto-row}
 use Rattle.laws.proofs.Tables.{length-table, getD-table, table-same}
-use Rattle.residual.specs.Inverse.{oneDimensional, rowOf, columnOf, rounded, inverse4x4}
+use Rattle.residual.specs.Inverse.{oneDimensional, rowOf, columnOf, rounded, inverse4x4, inverseBlocks}
 use Rattle.residual.specs.Numbers.{allInRange}
 use Rattle.residual.specs.inner.Sums.{placeIn}
 use Rattle.residual.proofs.InRange.{all-within}
@@ -94,6 +95,10 @@ pub inverse-is : (d f0 f1 f2 f3 h0 h1 h2 h3 : List ℤ) → f0 ≡ rowOf d 0 →
 unfolding inverse4x4 columnOf oneDimensional table
 inverse-is d f0 f1 f2 f3 h0 h1 h2 h3 p0 p1 p2 p3 q0 q1 q2 q3 = rw (q0, q1, q2, q3, p0, p1, p2, p3)
 
+pub inverse-long : (d : List ℤ) → length (inverse4x4 d) ≡ 16
+unfolding inverse4x4
+inverse-long d = length-table (pos 0) 16 (λ k. rounded (at (columnOf d (k % 4)) (k / 4)))
+
 -- residuals are small again
 pub inverse-within : (d : List ℤ) → allInRange d ≡ true → AllWithin 32768 (inverse4x4 d)
 unfolding inverse4x4 columnOf
@@ -139,6 +144,17 @@ blockAt l i = at (inverse4x4 (table 16 (λ k. at l (i / 16 * 16 + k)))) (i % 16)
 itself : (d : List ℤ) → table 16 (at (inverse4x4 d)) ≡ inverse4x4 d
 unfolding inverse4x4
 itself d = table-same 16 _ _ (getD-table (pos 0) 16 (λ k. rounded (at (columnOf d (k % 4)) (k / 4))))
+
+-- one block is all of a list of sixteen
+pub block-alone : (l : List ℤ) → length l ≡ 16 → inverseBlocks l ≡ inverse4x4 l
+block-alone l e =
+    ap (λ n. table n (blockAt l)) e
+    ∙ table-same 16 (blockAt l) (at (inverse4x4 l)) (λ i h.
+    let d : i / 16 * 16 ≡ 0 = omega arith in
+    let r : i % 16 ≡ i = omega arith in
+    ap₂ (λ (x y : ℕ). at (inverse4x4 (table 16 (λ k. at l (x + k)))) y) d r
+    ∙ ap (λ t. at t i) (inverse-same (table 16 (λ k. at l (0 + k))) l (λ k g. getD-table (pos 0) 16 (λ k. at l (0 + k)) k g ∙ ap (at l) (zero-add k))))
+    ∙ itself l
 
 -- `out` with the first b blocks of a list put: the next is put through the part of it from its first place on
 module _ (b : ℕ) (l out out′ : List ℤ) (e : out′ ≡ onto (16 * b) (blockAt l) out) (room : 16 * b + 16 ≤ length l) (long : length out ≡ length l) where

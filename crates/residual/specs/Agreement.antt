@@ -15,10 +15,10 @@ use Rattle.residual.specs.Reconstruct.{sums, putSquare, sumIn, intoRoom,
 abbrev pub lone : ℤ → List ℤ
 lone v = v ∷ replicate 15 (pos 0)
 
--- what a call that writes into a plane answers, and what it leaves there
+-- what a call on sixteen numbers that writes into a plane answers, and what it leaves there
 abbrev pub into : Bool → List ℤ → List ℕ → ℕ → ℕ → List ℕ → ℕ → ℕ → ℕ × List ℕ
 into numbers res pred predOff predStride rec recOff recStride =
-    let r = intoAnswer numbers (length pred) predOff predStride (length rec) recOff recStride in
+    let r = intoAnswer true numbers (length pred) predOff predStride (length rec) recOff recStride in
     (r, written r rec (putSquare 4 recOff recStride (sumIn 4 res pred predOff predStride) rec))
 
 -- the sample in column x and row y of the square of a plane whose first sample is at `off`

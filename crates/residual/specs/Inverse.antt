@@ -1,11 +1,14 @@
 -- The transformation of residual 4x4 blocks, clause 8.5.12.2: rows, then columns, then rounding. `shrZ z (2 ^ n)` is z >> n, which rounds down.
 use mathlib.Core.List.{List, [], _∷_}
 use Prim.Native.Nat.{ℕ, _+_, _*_, _/_, _%_}
+use lib.Dec.{eqb}
 use lib.IntN.{ℤ, pos, _+ℤ_, _-ℤ_}
 use lib.ListN.{length}
 use lib.Signed.{shrZ}
+use Rattle.laws.specs.Answer.{_unless_, answer}
 use Rattle.laws.specs.Range.{at}
 use Rattle.laws.specs.Table.{table, blockOf}
+use Rattle.residual.specs.Numbers.{allInRange}
 
 -- the one-dimensional transformation of four numbers, of a row and of a column
 unfoldable pub oneDimensional : ℤ → ℤ → ℤ → ℤ → List ℤ
@@ -35,3 +38,7 @@ inverse4x4 d = blockOf 4 (λ j i. rounded (at (columnOf d j) i))
 -- the residuals of each sixteen numbers of a list, where those stand
 abbrev pub inverseBlocks : List ℤ → List ℤ
 inverseBlocks l = table (length l) (λ i. at (inverse4x4 (table 16 (λ k. at l (i / 16 * 16 + k)))) (i % 16))
+
+-- the answer of a call that puts the residuals of one block into a list: 2 for another length, 8 for a number out of range
+abbrev pub inverseAnswer : List ℤ → ℕ → ℕ
+inverseAnswer d places = answer (2 unless eqb (length d) 16 ∷ 2 unless eqb places 16 ∷ 8 unless allInRange d ∷ [])

@@ -2,14 +2,15 @@
 use mathlib.Core.Bool.{Bool, _&&_}
 use mathlib.Core.List.{List, [], _∷_}
 use Prim.Native.Nat.{ℕ, _+_, _-_, _*_, _/_, _%_}
-use lib.Dec.{ltb, leb}
+use lib.Dec.{eqb, ltb, leb}
 use lib.IntN.{ℤ, pos, _+ℤ_}
-use lib.ListN.{getD}
+use lib.ListN.{getD, length}
 use Rattle.laws.specs.Answer.{_unless_, answer}
 use Rattle.laws.specs.Patch.{patch}
 use Rattle.laws.specs.Range.{at}
 use Rattle.laws.specs.Table.{table}
 use Rattle.residual.specs.Clip.{Clip1}
+use Rattle.residual.specs.Numbers.{allInRange}
 
 -- the first n samples of a block, from its prediction and its residual in raster order
 unfoldable pub sums : ℕ → List ℤ → List ℤ → List ℕ
@@ -38,7 +39,13 @@ unfoldable pub intoRoom : ℕ → ℕ → ℕ → ℕ → ℕ → ℕ → ℕ �
 intoRoom n predLen predOff predStride recLen recOff recStride =
     leb predStride 4096 && leb n recStride && leb recStride 4096 && rowsIn n predLen predOff predStride && rowsIn n recLen recOff recStride
 
--- the answer of such a call for a 4x4 block: 2 without room, 8 for a number out of range
-abbrev pub intoAnswer : Bool → ℕ → ℕ → ℕ → ℕ → ℕ → ℕ → ℕ
-intoAnswer numbers predLen predOff predStride recLen recOff recStride =
-    answer (2 unless intoRoom 4 predLen predOff predStride recLen recOff recStride ∷ 8 unless numbers ∷ [])
+-- the answer of such a call for a 4x4 block, by whether its list has sixteen numbers and whether they are in range: 2 for the list's length, 2 without
+-- room, 8 for a number out of range
+abbrev pub intoAnswer : Bool → Bool → ℕ → ℕ → ℕ → ℕ → ℕ → ℕ → ℕ
+intoAnswer sixteen numbers predLen predOff predStride recLen recOff recStride =
+    answer (2 unless sixteen ∷ 2 unless intoRoom 4 predLen predOff predStride recLen recOff recStride ∷ 8 unless numbers ∷ [])
+
+-- the answer of a call on lists, n numbers, n of a prediction and n bytes: 2 for another length, 8 for a number out of range
+abbrev pub sumsAnswer : ℕ → List ℤ → List ℤ → ℕ → ℕ
+sumsAnswer n numbers pred bytes =
+    answer (2 unless eqb (length numbers) n ∷ 2 unless eqb (length pred) n ∷ 2 unless eqb bytes n ∷ 8 unless (allInRange numbers && allInRange pred) ∷ [])

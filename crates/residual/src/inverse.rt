@@ -9,7 +9,7 @@ ghost use lib.ListN.{length, drop, replicate};
 ghost use Rattle.laws.specs.Answer.{_unless_, answer, written};
 ghost use Rattle.laws.specs.Range.{Within, AllWithin, at};
 ghost use Rattle.laws.specs.Table.{onto};
-ghost use Rattle.residual.specs.Inverse.{oneDimensional, rowOf, rounded, inverse4x4, inverseBlocks};
+ghost use Rattle.residual.specs.Inverse.{oneDimensional, rowOf, rounded, inverse4x4, inverseBlocks, inverseAnswer};
 ghost use Rattle.residual.specs.Numbers.{allInRange};
 ghost use Rattle.residual.specs.inner.Sums.{placeIn};
 use super::numbers::all_in_range;
@@ -24,28 +24,39 @@ pub fn inverse_4x4(deq: &[i32; 16]) -> Residual4x4
     ensures { λ r. ⌜ r .answer ≡ answer (8 unless allInRange (now (deq .entry)) ∷ []) ⌝ }
     ensures { λ r. ⌜ r .block ≡ written (r .answer) (replicate 16 (pos 0)) (inverse4x4 (now (deq .entry))) ⌝ }
 {
+    let mut block = [0i32; 16];
+    let answer = inverse_4x4_list(deq, &mut block);
+    Residual4x4 { answer, block }
+}
+
+// The same over lists, the residuals put into lent memory.
+pub fn inverse_4x4_list(deq: &[i32], out: &mut [i32]) -> u32
+    ensures { λ r. ⌜ r ≡ inverseAnswer (now (deq .entry)) (length (now (out .entry))) ⌝ }
+    ensures { λ r. ⌜ now (out .exit) ≡ written r (now (out .entry)) (inverse4x4 (now (deq .entry))) ⌝ }
+{
+    if deq.len() != 16 {
+        return 2;
+    }
+    if out.len() != 16 {
+        return 2;
+    }
     if !all_in_range(deq) {
-        return Residual4x4 {
-            answer: 8,
-            block: [0; 16],
-        };
+        return 8;
     }
-    Residual4x4 {
-        answer: 0,
-        block: widened(&inverse_core(deq)),
-    }
+    widen(&inverse_core(deq), out);
+    0
 }
 
 // The residuals of each sixteen numbers of a list, at the same places. Residuals have sixteen bits, so that nobody need ask for their range again.
 pub fn inverse_blocks(list: &[i32], out: &mut [i16]) -> u32
-    ensures { λ r. ⌜ r ≡ answer (2 unless eqb (length (now (list .entry)) % 16) 0 ∷ 2 unless eqb (length (now (out .entry))) (length (now (list .entry)))
+    ensures { λ r. ⌜ r ≡ answer (2 unless eqb (length (now (list .entry)) % 16) 0 ∷ 2 unless eqb (length (now (list .entry))) (length (now (out .entry)))
         ∷ 8 unless allInRange (now (list .entry)) ∷ []) ⌝ }
     ensures { λ r. ⌜ now (out .exit) ≡ written r (now (out .entry)) (inverseBlocks (now (list .entry))) ⌝ }
 {
     if list.len() % 16 != 0 {
         return 2;
     }
-    if out.len() != list.len() {
+    if list.len() != out.len() {
         return 2;
     }
     if !all_in_range(list) {
@@ -57,7 +68,7 @@ pub fn inverse_blocks(list: &[i32], out: &mut [i16]) -> u32
 
 // The same of a list that passes.
 fn invert_all(list: &[i32], out: &mut [i16])
-    requires { ⌜ (length (now list) % 16 ≡ 0) × (length (now out) ≡ length (now list)) × (allInRange (now list) ≡ true) ⌝ }
+    requires { ⌜ (length (now list) % 16 ≡ 0) × (length (now list) ≡ length (now out)) × (allInRange (now list) ≡ true) ⌝ }
     ensures { λ _. ⌜ now (out .exit) ≡ inverseBlocks (now (list .entry)) ⌝ }
 {
     let n = list.len() / 16;
@@ -77,15 +88,13 @@ pub(crate) fn inverse_core(deq: &[i32]) -> [i16; 16]
 }
 
 // Sixteen residuals as wider numbers.
-pub(crate) fn widened(res: &[i16]) -> [i32; 16]
-    requires { ⌜ length (now res) ≡ 16 ⌝ }
-    ensures { λ r. ⌜ r ≡ now (res .entry) ⌝ }
+pub(crate) fn widen(res: &[i16], out: &mut [i32])
+    requires { ⌜ (length (now res) ≡ 16) × (length (now out) ≡ 16) ⌝ }
+    ensures { λ _. ⌜ now (out .exit) ≡ now (res .entry) ⌝ }
 {
-    let mut wide = [0i32; 16];
     for k in 0..16 {
-        wide[k] = res[k] as i32;
+        out[k] = res[k] as i32;
     }
-    wide
 }
 
 // The residuals of the first sixteen numbers of a list over the first sixteen places of `out`: four rows, then four columns.

@@ -36,10 +36,10 @@ fn greatest(a: i32, b: i32) -> i32
 
 // The numbers of a list as residuals, which have sixteen bits.
 pub fn narrow_all(list: &[i32], out: &mut [i16]) -> u32
-    ensures { λ r. ⌜ r ≡ answer (2 unless eqb (length (now (out .entry))) (length (now (list .entry))) ∷ 8 unless allInRange (now (list .entry)) ∷ []) ⌝ }
+    ensures { λ r. ⌜ r ≡ answer (2 unless eqb (length (now (list .entry))) (length (now (out .entry))) ∷ 8 unless allInRange (now (list .entry)) ∷ []) ⌝ }
     ensures { λ r. ⌜ now (out .exit) ≡ written r (now (out .entry)) (now (list .entry)) ⌝ }
 {
-    if out.len() != list.len() {
+    if list.len() != out.len() {
         return 2;
     }
     if !all_in_range(list) {
@@ -51,7 +51,7 @@ pub fn narrow_all(list: &[i32], out: &mut [i16]) -> u32
 
 // The same of a list that passes.
 fn narrow_list(list: &[i32], out: &mut [i16])
-    requires { ⌜ (length (now out) ≡ length (now list)) × (allInRange (now list) ≡ true) ⌝ }
+    requires { ⌜ (length (now list) ≡ length (now out)) × (allInRange (now list) ≡ true) ⌝ }
     ensures { λ _. ⌜ now (out .exit) ≡ now (list .entry) ⌝ }
 {
     let n = list.len();
@@ -60,11 +60,26 @@ fn narrow_list(list: &[i32], out: &mut [i16])
     }
 }
 
-// A number in range as a residual, and 0 for another.
-pub(crate) fn narrow(v: i32) -> i16
-    ensures { λ r. ⌜ (inRange v ≡ true → r ≡ v) ⌝ }
+// A number as a residual, and whether it is one.
+pub(crate) fn narrow(v: i32) -> Narrowed
+    ensures { λ r. ⌜ (r .answer ≡ answer (8 unless inRange v ∷ [])) × (r .answer ≡ 0 → r .residual ≡ v) ⌝ }
 {
-    if in_range(v) { v as i16 } else { 0 }
+    if in_range(v) {
+        Narrowed {
+            answer: 0,
+            residual: v as i16,
+        }
+    } else {
+        Narrowed {
+            answer: 8,
+            residual: 0,
+        }
+    }
+}
+
+pub(crate) struct Narrowed {
+    pub answer: u32,
+    pub residual: i16,
 }
 
 // Whether `v` is in range.

@@ -1,6 +1,6 @@
 // Picture construction before deblocking (clauses 8.5.1 and 8.5.14): prediction and residual, added and clipped, in arrays and in lent planes.
 ghost use mathlib.Core.Path.{_≡_};
-ghost use mathlib.Core.Bool.{true, _&&_};
+ghost use mathlib.Core.Bool.{Bool, true, _&&_};
 ghost use mathlib.Core.List.{List, [], _∷_};
 ghost use Prim.Native.Nat.{ℕ, _+_, _*_, _≤_};
 ghost use lib.Dec.{eqb, leb};
@@ -11,13 +11,13 @@ ghost use Rattle.laws.specs.Range.{Within, AllWithin};
 ghost use Rattle.residual.specs.Clip.{Clip1};
 ghost use Rattle.residual.specs.Inverse.{inverse4x4};
 ghost use Rattle.residual.specs.Numbers.{inRange, allInRange};
-ghost use Rattle.residual.specs.Reconstruct.{sums, putSquare, sumIn, rowsIn, intoRoom, intoAnswer};
+ghost use Rattle.residual.specs.Reconstruct.{sums, putSquare, sumIn, rowsIn, intoRoom, intoAnswer, sumsAnswer};
 ghost use Rattle.residual.specs.inner.Sums.{summed};
 use super::clip::clip_u8;
+use super::inverse::inverse_blocks;
 use super::inverse::inverse_core;
-use super::inverse::widened;
+use super::inverse::widen;
 use super::numbers::all_in_range;
-use super::numbers::in_range;
 use super::numbers::narrow;
 use super::numbers::narrow_all;
 
@@ -36,19 +36,24 @@ pub fn reconstruct_4x4(dequant: &[i32; 16], pred: &[i32; 16]) -> Block4x4
     ensures { λ r. ⌜ r .answer ≡ answer (8 unless (allInRange (now (dequant .entry)) && allInRange (now (pred .entry))) ∷ []) ⌝ }
     ensures { λ r. ⌜ r .block ≡ written (r .answer) (replicate 16 0) (sums 16 (inverse4x4 (now (dequant .entry))) (now (pred .entry))) ⌝ }
 {
-    if !both_in_range(dequant, pred) {
-        return Block4x4 {
-            answer: 8,
-            block: [0; 16],
-        };
-    }
-    let res = widened(&inverse_core(dequant));
     let mut block = [0u8; 16];
-    add_clipped(&res, pred, &mut block);
-    Block4x4 {
-        answer: 0,
-        block: block,
+    let answer = reconstruct_4x4_lists(dequant, pred, &mut block);
+    Block4x4 { answer, block }
+}
+
+// The same over lists, the samples put into lent memory.
+pub fn reconstruct_4x4_lists(deq: &[i32], pred: &[i32], block: &mut [u8]) -> u32
+    ensures { λ r. ⌜ r ≡ sumsAnswer 16 (now (deq .entry)) (now (pred .entry)) (length (now (block .entry))) ⌝ }
+    ensures { λ r. ⌜ now (block .exit) ≡ written r (now (block .entry)) (sums 16 (inverse4x4 (now (deq .entry))) (now (pred .entry))) ⌝ }
+{
+    let answer = lists_answer(16, deq, pred, block.len());
+    if answer != 0 {
+        return answer;
     }
+    let mut res = [0i32; 16];
+    widen(&inverse_core(deq), &mut res);
+    add_clipped(16, &res, pred, block);
+    0
 }
 
 // The samples of a 4x4 block, from its residual and its prediction.
@@ -57,11 +62,8 @@ pub fn add_residual_4x4(res: &[i32; 16], pred: &[i32; 16]) -> Block4x4
     ensures { λ r. ⌜ r .block ≡ written (r .answer) (replicate 16 0) (sums 16 (now (res .entry)) (now (pred .entry))) ⌝ }
 {
     let mut block = [0u8; 16];
-    let answer = add_checked(res, pred, &mut block);
-    Block4x4 {
-        answer: answer,
-        block: block,
-    }
+    let answer = add_residual_lists(16, res, pred, &mut block);
+    Block4x4 { answer, block }
 }
 
 // The same of an 8x8 block.
@@ -70,36 +72,49 @@ pub fn add_residual_8x8(res: &[i32; 64], pred: &[i32; 64]) -> Block8x8
     ensures { λ r. ⌜ r .block ≡ written (r .answer) (replicate 64 0) (sums 64 (now (res .entry)) (now (pred .entry))) ⌝ }
 {
     let mut block = [0u8; 64];
-    let answer = add_checked(res, pred, &mut block);
-    Block8x8 {
-        answer: answer,
-        block: block,
-    }
+    let answer = add_residual_lists(64, res, pred, &mut block);
+    Block8x8 { answer, block }
 }
 
-// The clipped sums of as many numbers as `block` has places; 8, and `block` as it was, where a number is out of range.
-fn add_checked(res: &[i32], pred: &[i32], block: &mut [u8]) -> u32
-    requires { ⌜ (length (now res) ≡ length (now block)) × (length (now pred) ≡ length (now block)) ⌝ }
-    ensures { λ r. ⌜ r ≡ answer (8 unless (allInRange (now (res .entry)) && allInRange (now (pred .entry))) ∷ []) ⌝ }
-    ensures { λ r. ⌜ now (block .exit) ≡ written r (now (block .entry)) (sums (length (now (block .entry))) (now (res .entry)) (now (pred .entry))) ⌝ }
+// The same of n numbers over lists, the samples put into lent memory.
+pub fn add_residual_lists(n: usize, res: &[i32], pred: &[i32], block: &mut [u8]) -> u32
+    ensures { λ r. ⌜ r ≡ sumsAnswer n (now (res .entry)) (now (pred .entry)) (length (now (block .entry))) ⌝ }
+    ensures { λ r. ⌜ now (block .exit) ≡ written r (now (block .entry)) (sums n (now (res .entry)) (now (pred .entry))) ⌝ }
 {
-    if !both_in_range(res, pred) {
+    let answer = lists_answer(n, res, pred, block.len());
+    if answer != 0 {
+        return answer;
+    }
+    add_clipped(n, res, pred, block);
+    0
+}
+
+// The answer of a call on n numbers, n of a prediction and `bytes` places.
+fn lists_answer(n: usize, numbers: &[i32], pred: &[i32], bytes: usize) -> u32
+    ensures { λ r. ⌜ r ≡ sumsAnswer n (now (numbers .entry)) (now (pred .entry)) bytes ⌝ }
+{
+    if numbers.len() != n {
+        return 2;
+    }
+    if pred.len() != n {
+        return 2;
+    }
+    if bytes != n {
+        return 2;
+    }
+    if !both_in_range(numbers, pred) {
         return 8;
     }
-    add_clipped(res, pred, block);
     0
 }
 
 // The same of numbers that are in range.
-fn add_clipped(res: &[i32], pred: &[i32], block: &mut [u8])
-    requires { ⌜ (length (now res) ≡ length (now block)) × (length (now pred) ≡ length (now block)) ⌝ }
-    requires { ⌜ AllWithin 32768 (now res) × AllWithin 32768 (now pred) ⌝ }
-    ensures { λ _. ⌜ now (block .exit) ≡ sums (length (now (block .entry))) (now (res .entry)) (now (pred .entry)) ⌝ }
+fn add_clipped(n: usize, res: &[i32], pred: &[i32], block: &mut [u8])
+    requires { ⌜ (length (now res) ≡ n) × (length (now pred) ≡ n) × (length (now block) ≡ n) × AllWithin 32768 (now res) × AllWithin 32768 (now pred) ⌝ }
+    ensures { λ _. ⌜ now (block .exit) ≡ sums n (now (res .entry)) (now (pred .entry)) ⌝ }
 {
-    let mut k = 0;
-    while k < block.len() {
+    for k in 0..n {
         block[k] = clip_u8(pred[k] + res[k]);
-        k += 1;
     }
 }
 
@@ -113,9 +128,9 @@ fn both_in_range(a: &[i32], b: &[i32]) -> bool
     all_in_range(b)
 }
 
-// A 4x4 block rebuilt in a plane from its coefficients, over a prediction that stands in a plane of its own.
+// A 4x4 block rebuilt in a plane from its sixteen coefficients, over a prediction that stands in a plane of its own.
 pub fn reconstruct_4x4_into(
-    deq: &[i32; 16],
+    deq: &[i32],
     pred: &[u8],
     p_off: usize,
     p_stride: usize,
@@ -123,21 +138,14 @@ pub fn reconstruct_4x4_into(
     r_off: usize,
     r_stride: usize,
 ) -> u32
-    ensures { λ r. ⌜ r ≡ intoAnswer (allInRange (now (deq .entry))) (length (now (pred .entry))) «p_off» «p_stride» (length (now (rec .entry))) «r_off» «r_stride» ⌝ }
-    ensures { λ r. ⌜ now (rec .exit)
-        ≡ written r (now (rec .entry)) (putSquare 4 «r_off» «r_stride» (sumIn 4 (inverse4x4 (now (deq .entry))) (now (pred .entry)) «p_off» «p_stride») (now (rec .entry))) ⌝ }
+    ensures { λ r. ⌜ r ≡ intoAnswer (eqb (length (now (deq .entry))) 16) (allInRange (now (deq .entry)))
+        (length (now (pred .entry))) «p_off» «p_stride» (length (now (rec .entry))) «r_off» «r_stride» ⌝ }
+    ensures { λ r. ⌜ now (rec .exit) ≡ written r (now (rec .entry))
+        (putSquare 4 «r_off» «r_stride» (sumIn 4 (inverse4x4 (now (deq .entry))) (now (pred .entry)) «p_off» «p_stride») (now (rec .entry))) ⌝ }
 {
-    let numbers = all_in_range(deq);
-    let res = inverse_if(numbers, deq);
-    put_checked(numbers, &res, pred, p_off, p_stride, rec, r_off, r_stride)
-}
-
-// The residuals of coefficients that are in range, and zeros for others.
-fn inverse_if(numbers: bool, deq: &[i32; 16]) -> [i16; 16]
-    requires { ⌜ (numbers ≡ true → allInRange (now deq) ≡ true) ⌝ }
-    ensures { λ r. ⌜ (numbers ≡ true → r ≡ inverse4x4 (now (deq .entry))) ⌝ }
-{
-    if numbers { inverse_core(deq) } else { [0; 16] }
+    let mut res = [0i16; 16];
+    let list = inverse_blocks(deq, &mut res);
+    put_checked(list, &res, pred, p_off, p_stride, rec, r_off, r_stride)
 }
 
 // The same where all sixteen residuals are `rval`.
@@ -150,34 +158,16 @@ pub fn reconstruct_4x4_dc_into(
     r_off: usize,
     r_stride: usize,
 ) -> u32
-    ensures { λ r. ⌜ r ≡ intoAnswer (inRange rval) (length (now (pred .entry))) «p_off» «p_stride» (length (now (rec .entry))) «r_off» «r_stride» ⌝ }
-    ensures { λ r. ⌜ now (rec .exit)
-        ≡ written r (now (rec .entry)) (putSquare 4 «r_off» «r_stride» (sumIn 4 (replicate 16 rval) (now (pred .entry)) «p_off» «p_stride») (now (rec .entry))) ⌝ }
+    ensures { λ r. ⌜ r ≡ intoAnswer true (inRange rval)
+        (length (now (pred .entry))) «p_off» «p_stride» (length (now (rec .entry))) «r_off» «r_stride» ⌝ }
+    ensures { λ r. ⌜ now (rec .exit) ≡ written r (now (rec .entry))
+        (putSquare 4 «r_off» «r_stride» (sumIn 4 (replicate 16 rval) (now (pred .entry)) «p_off» «p_stride») (now (rec .entry))) ⌝ }
 {
-    let numbers = in_range(rval);
-    let res = [narrow(rval); 16];
-    put_checked(numbers, &res, pred, p_off, p_stride, rec, r_off, r_stride)
-}
-
-// The same from sixteen residuals.
-pub fn add_residual_4x4_into(
-    res: &[i32; 16],
-    pred: &[u8],
-    p_off: usize,
-    p_stride: usize,
-    rec: &mut [u8],
-    r_off: usize,
-    r_stride: usize,
-) -> u32
-    ensures { λ r. ⌜ r ≡ intoAnswer (allInRange (now (res .entry))) (length (now (pred .entry))) «p_off» «p_stride» (length (now (rec .entry))) «r_off» «r_stride» ⌝ }
-    ensures { λ r. ⌜ now (rec .exit)
-        ≡ written r (now (rec .entry)) (putSquare 4 «r_off» «r_stride» (sumIn 4 (now (res .entry)) (now (pred .entry)) «p_off» «p_stride») (now (rec .entry))) ⌝ }
-{
-    let mut narrowed = [0i16; 16];
-    let numbers = narrow_all(res, &mut narrowed) == 0;
+    let one = narrow(rval);
+    let res = [one.residual; 16];
     put_checked(
-        numbers,
-        &narrowed,
+        one.answer,
+        &res,
         pred,
         p_off,
         p_stride,
@@ -185,6 +175,26 @@ pub fn add_residual_4x4_into(
         r_off,
         r_stride,
     )
+}
+
+// The same from sixteen residuals.
+pub fn add_residual_4x4_into(
+    res: &[i32],
+    pred: &[u8],
+    p_off: usize,
+    p_stride: usize,
+    rec: &mut [u8],
+    r_off: usize,
+    r_stride: usize,
+) -> u32
+    ensures { λ r. ⌜ r ≡ intoAnswer (eqb (length (now (res .entry))) 16) (allInRange (now (res .entry)))
+        (length (now (pred .entry))) «p_off» «p_stride» (length (now (rec .entry))) «r_off» «r_stride» ⌝ }
+    ensures { λ r. ⌜ now (rec .exit) ≡ written r (now (rec .entry))
+        (putSquare 4 «r_off» «r_stride» (sumIn 4 (now (res .entry)) (now (pred .entry)) «p_off» «p_stride») (now (rec .entry))) ⌝ }
+{
+    let mut narrowed = [0i16; 16];
+    let list = narrow_all(res, &mut narrowed);
+    put_checked(list, &narrowed, pred, p_off, p_stride, rec, r_off, r_stride)
 }
 
 // A block of side 4m in the same way, m from 1 to 4, from residuals of sixteen bits in raster order: no such number is out of range.
@@ -227,10 +237,10 @@ pub fn add_residual_into(
     0
 }
 
-// What the three calls on sixteen numbers share: the answer, and the sums where it is 0. `numbers` says whether the numbers are in range, and only
-// then `res` must be their residuals.
+// What the three calls on sixteen numbers share: the answer, and the sums where it is 0. `list` is the answer for the numbers alone, 0, 2 or 8, and only
+// where it is 0 must `res` be their residuals.
 fn put_checked(
-    numbers: bool,
+    list: u32,
     res: &[i16; 16],
     pred: &[u8],
     p_off: usize,
@@ -239,37 +249,23 @@ fn put_checked(
     r_off: usize,
     r_stride: usize,
 ) -> u32
-    ensures { λ r. ⌜ r ≡ intoAnswer numbers (length (now (pred .entry))) «p_off» «p_stride» (length (now (rec .entry))) «r_off» «r_stride» ⌝ }
-    ensures { λ r. ⌜ ((l : List ℤ) → (numbers ≡ true → now (res .entry) ≡ l) → now (rec .exit)
-        ≡ written r (now (rec .entry)) (putSquare 4 «r_off» «r_stride» (sumIn 4 l (now (pred .entry)) «p_off» «p_stride») (now (rec .entry)))) ⌝ }
+    ensures { λ r. ⌜ ((sixteen numbers : Bool) → list ≡ answer (2 unless sixteen ∷ 8 unless numbers ∷ [])
+        → r ≡ intoAnswer sixteen numbers (length (now (pred .entry))) «p_off» «p_stride» (length (now (rec .entry))) «r_off» «r_stride») ⌝ }
+    ensures { λ r. ⌜ ((l : List ℤ) → (list ≡ 0 → now (res .entry) ≡ l) → now (rec .exit) ≡ written r (now (rec .entry))
+        (putSquare 4 «r_off» «r_stride» (sumIn 4 l (now (pred .entry)) «p_off» «p_stride») (now (rec .entry)))) ⌝ }
 {
+    if list == 2 {
+        return 2;
+    }
     let p_len = pred.len();
     let r_len = rec.len();
-    let answer = into_answer(numbers, p_len, p_off, p_stride, r_len, r_off, r_stride);
-    if answer == 0 {
-        put_rows(1, res, pred, p_off, p_stride, rec, r_off, r_stride);
-    }
-    answer
-}
-
-// The answer for a 4x4 block: 2 without room, else 8 for a number out of range.
-fn into_answer(
-    numbers: bool,
-    p_len: usize,
-    p_off: usize,
-    p_stride: usize,
-    r_len: usize,
-    r_off: usize,
-    r_stride: usize,
-) -> u32
-    ensures { λ r. ⌜ r ≡ intoAnswer numbers «p_len» «p_off» «p_stride» «r_len» «r_off» «r_stride» ⌝ }
-{
     if !into_room(4, p_len, p_off, p_stride, r_len, r_off, r_stride) {
         return 2;
     }
-    if !numbers {
-        return 8;
+    if list != 0 {
+        return list;
     }
+    put_rows(1, res, pred, p_off, p_stride, rec, r_off, r_stride);
     0
 }
 

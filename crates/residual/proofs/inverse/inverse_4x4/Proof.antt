@@ -1,30 +1,17 @@
--- `residual::inverse::inverse_4x4` meets its contract: it refuses what its test refuses. Assumes nothing.
-use mathlib.Core.Path.{refl, sym, _∙_}
-use borrow.Author.Tests.{not-true, not-false}
+-- `residual::inverse::inverse_4x4` meets its contract: it is the form over lists, of an array and a block of zeros. Assumes nothing.
+use mathlib.Core.Path.{_∙_}
+use Rattle.residual.proofs.Rooms.{inverse-array}
 use borrow.Author.Needs.{needs}
 use Rattle.residual.proofs.inverse.inverse_4x4.Statement.{statement}
 use Rattle.residual.proofs.inverse.inverse_4x4.Tie as tie
 
 returns : tie.Need-returns
-returns c = let e = sym (c .before .all-in-range .ensures) ∙ not-true _ (c .if1 .taken) in (rw e, refl)
-
-inverse-core-requires : tie.Need-inverse-core-requires
-inverse-core-requires c κs = let d = c .before in (search needs, sym (d .before .all-in-range .ensures) ∙ not-false _ (d .if1 .left))
-
-returns-2 : tie.Need-returns-2
-returns-2 c =
-    let i = c .before .before in
-    let d = i .before .before in
-    let e = sym (d .before .all-in-range .ensures) ∙ not-false _ (d .if1 .left) in
-    (rw e, c .widened .ensures ∙ i .inverse-core .ensures)
+returns c = let p = c .before .inverse-4x4-list .ensures in (p .0 ∙ inverse-array _ (c .before .before .before .inverse-4x4-list-arg .given .0), p .1)
 
 pub inverse-4x4-spec : {M : Type 1} → statement M
 inverse-4x4-spec =
     tie.close
     (tie.spec
-    (λ c κs. search needs)
-    returns
-    inverse-core-requires
     (λ c. search needs)
     (λ c κs. search needs)
-    returns-2)
+    returns)

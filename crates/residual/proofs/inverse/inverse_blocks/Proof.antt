@@ -16,8 +16,7 @@ returns-2 c = (rw (eq-eqb _ _ (c .before .if1 .left), ne-eqb _ _ (c .if2 .taken)
 returns-3 : tie.Need-returns-3
 returns-3 c =
     let d = c .before .before in
-    let e = sym (c .before .all-in-range .ensures) ∙ not-true _ (c .if3 .taken) in
-    (rw (eq-eqb _ _ (d .before .if1 .left), eq-eqb _ _ (d .if2 .left), e), refl)
+    (rw (eq-eqb _ _ (d .before .if1 .left), eq-eqb _ _ (d .if2 .left), sym (c .before .all-in-range .ensures) ∙ not-true _ (c .if3 .taken)), refl)
 
 -- the tests passed
 passed : (c : tie.Else3) → allInRange (c .before .before .before .before .args .list .now) ≡ true

@@ -28,7 +28,7 @@ here c =
     let b = c .before in
     let s = b .before in
     let room : 16 * b .loop .b + 16 ≤ length (s .args .list .now) = omega arith in
-    (room, kept (b .loop .b) (s .args .list .now) (s .args .out .now) (b .loop .out) (b .loop .inv .1) room (s .pre .1))
+    (room, kept (b .loop .b) (s .args .list .now) (s .args .out .now) (b .loop .out) (b .loop .inv .1) room (sym (s .pre .1)))
 
 invert-requires : tie.Need-invert-requires Inv-loop μ-loop
 invert-requires c κs =
@@ -37,7 +37,7 @@ invert-requires c κs =
     let h = here (c .before .before) in (
       simp (length-take, length-drop) (omega arith),
       simp (length-take, length-drop) (omega arith),
-      λ k n. subst (Within 32768) (sym (block-at (b .loop .b) l _ _ (b .loop .inv .1) (h .0) (b .before .pre .1) k n)) (all-within l (b .before .pre .2) .each (16 * b .loop .b + k)),
+      λ k n. subst (Within 32768) (sym (block-at (b .loop .b) l _ _ (b .loop .inv .1) (h .0) (sym (b .before .pre .1)) k n)) (all-within l (b .before .pre .2) .each (16 * b .loop .b + k)),
     )
 
 loop-again : tie.Need-loop-again Inv-loop μ-loop
@@ -46,7 +46,7 @@ loop-again c =
     let u = i .before .before .before in
     let b = u .before in
     let s = b .before in
-    (omega arith, block-more (b .loop .b) (s .args .list .now) (s .args .out .now) (b .loop .out) (b .loop .inv .1) (here u .0) (s .pre .1) (i .invert .last .1 .0) (i .invert .ensures))
+    (omega arith, block-more (b .loop .b) (s .args .list .now) (s .args .out .now) (b .loop .out) (b .loop .inv .1) (here u .0) (sym (s .pre .1)) (i .invert .last .1 .0) (i .invert .ensures))
 
 same-length : tie.Need-same-length Inv-loop μ-loop
 same-length c =
@@ -60,7 +60,7 @@ returns c =
     let s = b .before in
     let l = s .args .list .now in
     let e : 16 * b .loop .b ≡ length l = omega (arith, s .pre .0) in
-    b .loop .inv .1 ∙ ap (λ n. onto n (blockAt l) (s .args .out .now)) e ∙ onto-all (length l) (blockAt l) (s .args .out .now) (s .pre .1)
+    b .loop .inv .1 ∙ ap (λ n. onto n (blockAt l) (s .args .out .now)) e ∙ onto-all (length l) (blockAt l) (s .args .out .now) (sym (s .pre .1))
 
 pub invert-all-spec : {M : Type 1} → statement M
 invert-all-spec =

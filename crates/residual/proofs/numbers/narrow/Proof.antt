@@ -3,7 +3,7 @@ use mathlib.Core.Path.{_≡_, sym, ap, _∙_, subst}
 use mir.Facts.{toZ-ofZ}
 use mir.Syntax.{w16}
 use mir.Val.{SFits, toZ, ofZ}
-use Rattle.laws.proofs.Tests.{not-both}
+use native.Mathlib.Omega.{arith}
 use Rattle.residual.specs.Numbers.{inRange}
 use Rattle.residual.proofs.InRange.{in-range-short}
 use borrow.Author.Needs.{needs}
@@ -16,20 +16,20 @@ tested c = simp (toZ-ofZ, c .before .fits .v) at (c .in-range .ensures)
 short : (c : tie.Then1) → SFits w16 (c .before .before .args .v)
 short c = in-range-short (c .before .before .args .v) (sym (tested (c .before)) ∙ c .if1 .taken)
 
-cast-result : tie.Need-cast-result
-cast-result c = subst (SFits w16) (sym (toZ-ofZ (c .before .before .fits .v))) (short c)
+cast-t4 : tie.Need-cast-t4
+cast-t4 c = subst (SFits w16) (sym (toZ-ofZ (c .before .before .fits .v))) (short c)
 
 returns : tie.Need-returns
-returns c _ = ap (λ z. toZ w16 (ofZ w16 z)) (toZ-ofZ (c .before .before .fits .v)) ∙ toZ-ofZ (short c)
+returns c = (rw (sym (tested (c .before)) ∙ c .if1 .taken), λ _. ap (λ z. toZ w16 (ofZ w16 z)) (toZ-ofZ (c .before .before .fits .v)) ∙ toZ-ofZ (short c))
 
 returns-2 : tie.Need-returns-2
-returns-2 c e = absurd (not-both e (sym (tested (c .before)) ∙ c .if1 .left))
+returns-2 c = (rw (sym (tested (c .before)) ∙ c .if1 .left), λ e. absurd (omega arith))
 
 pub narrow-spec : {M : Type 1} → statement M
 narrow-spec =
     tie.close
     (tie.spec
     (λ c κs. search needs)
-    cast-result
+    cast-t4
     returns
     returns-2)

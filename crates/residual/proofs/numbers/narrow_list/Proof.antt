@@ -20,7 +20,7 @@ abbrev μ-loop : tie.MeasureT-loop
 μ-loop list out₀ n k₀ out k = n - k
 
 loop-holds : tie.Need-loop-holds Inv-loop μ-loop
-loop-holds c = (search needs, filled-none (pos 0) _ _ _ (c .pre .0))
+loop-holds c = (search needs, filled-none (pos 0) _ _ _ (sym (c .pre .0)))
 
 -- number k has sixteen bits, and is what the machine reads
 short : (c : tie.After-out Inv-loop μ-loop) → let s = c .before .before .before .args .list .now in let k = c .before .before .loop .k in
@@ -39,7 +39,7 @@ loop-again c =
     (omega arith, filled-more (pos 0) _ _ _ _ _ (omega arith) (c .before .before .loop .inv .1) (ap (λ z. toZ w16 (ofZ w16 z)) (short c .1) ∙ toZ-ofZ (short c .0)))
 
 same-length : tie.Need-same-length Inv-loop μ-loop
-same-length c = c .before .loop .inv .1 .long ∙ sym (c .before .before .pre .0)
+same-length c = c .before .loop .inv .1 .long ∙ c .before .before .pre .0
 
 returns : tie.Need-returns Inv-loop μ-loop
 returns c = let b = c .before in filled-copy (pos 0) (b .before .args .list .now) _ (b .loop .k) (b .loop .out) (omega arith) refl (b .loop .inv .1)

@@ -1,9 +1,8 @@
 -- `residual::reconstruct::add_clipped` meets its contract. The invariant: the places passed hold the clipped sums. Assumes nothing.
-use mathlib.Core.Path.{refl, _∙_}
+use mathlib.Core.Path.{_∙_, sym}
 use Prim.Native.Nat.{_≤_, _-_}
 use native.Mathlib.Omega.{arith}
 use lib.IntN.{_+ℤ_}
-use lib.ListN.{length}
 use Rattle.laws.specs.Range.{at}
 use Rattle.laws.proofs.Ints.{ints}
 use Rattle.laws.proofs.Tables.{Filled, filled-none, filled-more, filled-all}
@@ -15,16 +14,16 @@ use Rattle.residual.proofs.reconstruct.add_clipped.Statement.{statement
 use Rattle.residual.proofs.reconstruct.add_clipped.Tie as tie
 
 abbrev Inv-loop : tie.InvT-loop
-Inv-loop res pred block₀ k₀ block k = (k ≤ length block₀) × Filled 0 (λ i. Clip1 (at pred i +ℤ at res i)) (length block₀) k block
+Inv-loop n res pred block₀ k₀ block k = (k ≤ n) × Filled 0 (λ i. Clip1 (at pred i +ℤ at res i)) n k block
 
 abbrev μ-loop : tie.MeasureT-loop
-μ-loop res pred block₀ k₀ block k = length block₀ - k
+μ-loop n res pred block₀ k₀ block k = n - k
 
 loop-holds : tie.Need-loop-holds Inv-loop μ-loop
-loop-holds c = (omega arith, filled-none 0 _ _ _ refl)
+loop-holds c = (search needs, filled-none 0 _ _ _ (c .before .pre .2))
 
 add-clip-u8 : tie.Need-add-clip-u8 Inv-loop μ-loop
-add-clip-u8 c = let p = c .before .before .before .before .before .pre .1 in let w = p .0 in let v = p .1 in search ints depth 20
+add-clip-u8 c = let p = c .before .before .before .before .before .pre in let w = p .3 in let v = p .4 in search ints depth 20
 
 loop-again : tie.Need-loop-again Inv-loop μ-loop
 loop-again c =
@@ -33,11 +32,11 @@ loop-again c =
     let k = b .loop .k in (
       omega arith,
       filled-more 0 _ _ k _ _ (omega arith) (b .loop .inv .1)
-          (c .clip-u8 .ensures ∙ sum-is (at (u .args .pred .now) k) (at (u .args .res .now) k) (u .pre .1 .1 .each k) (u .pre .1 .0 .each k)),
+          (c .clip-u8 .ensures ∙ sum-is (at (u .args .pred .now) k) (at (u .args .res .now) k) (u .pre .4 .each k) (u .pre .3 .each k)),
     )
 
 same-length : tie.Need-same-length Inv-loop μ-loop
-same-length c = c .before .loop .inv .1 .long
+same-length c = c .before .loop .inv .1 .long ∙ sym (c .before .before .before .pre .2)
 
 returns : tie.Need-returns Inv-loop μ-loop
 unfolding sums
@@ -56,7 +55,7 @@ add-clipped-spec =
     (λ c. search needs)
     add-clip-u8
     (λ c κs. search needs)
-    (λ c. omega (arith, c .before .before .before .before .loop .inv .1 .long))
+    (λ c. search needs)
     (λ c. search needs)
     (λ c. search needs)
     loop-again

@@ -1,45 +1,51 @@
--- `residual::reconstruct::put_checked` meets its contract: the answer 0 says that there is room and that the numbers are in range. Assumes nothing.
-use mathlib.Core.Path.{_≡_, sym, ap, _∙_}
-use mathlib.Core.Bool.{true}
+-- `residual::reconstruct::put_checked` meets its contract: the answer 0 says that there is room and that the numbers are good. Assumes nothing.
+use mathlib.Core.Path.{_≡_, refl, sym, ap, _∙_}
+use mathlib.Core.Bool.{Bool, true}
+use borrow.Author.Tests.{not-true, not-false}
 use lib.ListN.{length}
-use Rattle.laws.proofs.Answers.{put, refused}
+use Rattle.laws.proofs.Answers.{refused}
 use Rattle.residual.specs.Reconstruct.{putSquare, sumIn, intoRoom}
-use Rattle.residual.proofs.Rooms.{passed}
+use Rattle.residual.proofs.Rooms.{no-list, no-room, in-room}
 use borrow.Author.Needs.{needs}
 use Rattle.residual.proofs.reconstruct.put_checked.Statement.{statement}
 use Rattle.residual.proofs.reconstruct.put_checked.Tie as tie
 
--- what the answer 0 says
-accepted : (c : tie.Then1) → let a = c .before .before .before .before .args in
-    (intoRoom 4 (length (a .pred .now)) (a .p-off) (a .p-stride) (length (a .rec .now)) (a .r-off) (a .r-stride) ≡ true) × (a .numbers ≡ true)
-accepted c =
-    let a = c .before .before .before .before .args in
-    passed (a .numbers) (length (a .pred .now)) (a .p-off) (a .p-stride) (length (a .rec .now)) (a .r-off) (a .r-stride)
-    (sym (c .before .into-answer .ensures) ∙ c .if1 .taken)
+-- the room, as it was tested
+abbrev room : tie.Start → Bool
+room s = let a = s .args in intoRoom 4 (length (a .pred .now)) (a .p-off) (a .p-stride) (length (a .rec .now)) (a .r-off) (a .r-stride)
 
-put-rows-requires : tie.Need-put-rows-requires
-put-rows-requires c κs = (search needs, accepted (c .before .before) .0)
+roomy : (c : tie.Else2) → room (c .before .before .before .before .before) ≡ true
+roomy c = sym (c .before .into-room .ensures) ∙ not-false _ (c .if2 .left)
 
 returns : tie.Need-returns
-returns c =
-    let r = c .before .before in
-    let d = r .before .before .before in
-    let a = d .before .before .before .before .args in (
-      d .before .into-answer .ensures,
-      λ l same. r .put-rows .ensures
-          ∙ ap (λ res. putSquare 4 (a .r-off) (a .r-stride) (sumIn 4 res (a .pred .now) (a .p-off) (a .p-stride)) (a .rec .now)) (same (accepted d .1))
-          ∙ sym (put _ _ (d .if1 .taken)),
-    )
+returns c = (λ s n e. no-list s n (room (c .before .before .before)) e (c .if1 .taken), λ l same. refl)
 
 returns-2 : tie.Need-returns-2
-returns-2 c = (c .before .into-answer .ensures, λ l same. sym (refused _ _ _ (c .if1 .left)))
+returns-2 c = (λ s n e. no-room s n (room (c .before .before .before .before .before)) e (sym (c .before .into-room .ensures) ∙ not-true _ (c .if2 .taken)), λ l same. refl)
+
+returns-3 : tie.Need-returns-3
+returns-3 c = (λ s n e. in-room s n (room (c .before .before .before .before .before .before)) e (roomy (c .before)), λ l same. sym (refused _ _ _ (c .if3 .taken)))
+
+put-rows-requires : tie.Need-put-rows-requires
+put-rows-requires c κs = (search needs, roomy (c .before .before .before))
+
+returns-4 : tie.Need-returns-4
+returns-4 c =
+    let r = c .before .before in
+    let z = r .before .before .before in
+    let a = z .before .before .before .before .before .before .args in (
+      λ s n e. sym (z .if3 .left) ∙ in-room s n (room (z .before .before .before .before .before .before)) e (roomy (z .before)),
+      λ l same. r .put-rows .ensures ∙ ap (λ res. putSquare 4 (a .r-off) (a .r-stride) (sumIn 4 res (a .pred .now) (a .p-off) (a .p-stride)) (a .rec .now)) (same (z .if3 .left)),
+    )
 
 pub put-checked-spec : {M : Type 1} → statement M
 put-checked-spec =
     tie.close
     (tie.spec
+    returns
     (λ c κs. search needs)
+    returns-2
+    returns-3
     put-rows-requires
     (λ c. search needs)
-    returns
-    returns-2)
+    returns-4)
