@@ -1,9 +1,10 @@
 -- The answer of a call, rule by rule: a rule that holds leaves what the later ones say, and one that does not gives its number. Assumes nothing.
 use mathlib.Core.Path.{_≡_, refl, sym, _∙_}
-use mathlib.Core.Bool.{Bool, true, false, cond}
+use mathlib.Core.Bool.{Bool, true, false, not, cond}
 use mathlib.Core.List.{List, [], _∷_}
 use Prim.Native.Nat.{ℕ, zero, suc}
 use native.Mathlib.Omega.{arith}
+use lib.Dec.{T, eqb}
 use lib.ListN.{take}
 use Rattle.laws.specs.Answer.{Check, _unless_, answer, written}
 
@@ -31,6 +32,11 @@ refused (suc r) old new h = refl
 
 pub put : {A : Type 0} {r : ℕ} (old new : A) → r ≡ 0 → written r old new ≡ new
 put {A} {r} old new e = rw e
+
+-- an answer that is not 0, as code tests it
+pub not-zero : (r : ℕ) → T (not (eqb r 0)) → ¬ (r ≡ 0)
+not-zero zero t e = t
+not-zero (suc r) t e = omega arith
 
 -- ---- the first k rules alone
 -- a call that they refuse is refused by them
