@@ -1,10 +1,10 @@
--- `macroblock::cut::has_right` meets its contract: its tests are the definition's. Assumes nothing.
+-- `macroblock::cut::has_above_right` meets its contract: its tests are the definition's. Assumes nothing.
 use Prim.Native.Nat.{_+_}
 use native.Mathlib.Omega.{arith}
 use borrow.Author.Tests.{ne-eqb, lt-leb, le-leb}
 use borrow.Author.Needs.{needs}
-use Rattle.macroblock.proofs.cut.has_right.Statement.{statement}
-use Rattle.macroblock.proofs.cut.has_right.Tie as tie
+use Rattle.macroblock.proofs.cut.has_above_right.Statement.{statement}
+use Rattle.macroblock.proofs.cut.has_above_right.Tie as tie
 
 returns : tie.Need-returns
 returns c = rw (c .before .if1 .taken) (c .choose .ensures)
@@ -17,8 +17,8 @@ returns-3 c =
     let a = c .before .before .before .args in
     rw (ne-eqb (a .v) 0 (c .before .before .if1 .left), le-leb (a .u + 2) (a .m) (omega arith), c .blk-idx .ensures)
 
-pub has-right-spec : {M : Type 1} → statement M
-has-right-spec =
+pub has-above-right-spec : {M : Type 1} → statement M
+has-above-right-spec =
     tie.close
     (tie.spec
     (λ c. search needs)

@@ -1,13 +1,13 @@
--- `macroblock::cut::marks_of` meets its contract: where a side lies in the macroblock, the block there is an earlier one. Assumes nothing.
+-- `macroblock::cut::sides_of` meets its contract: where a side lies in the macroblock, the block there is an earlier one. Assumes nothing.
 use mathlib.Core.Path.{_∙_}
 use Prim.Native.Nat.{ℕ, _*_, _<_, _≤_}
 use native.Mathlib.Nat.{mul-le-mul}
 use native.Mathlib.Omega.{arith}
-use Rattle.macroblock.specs.Cut.{marksOf}
+use Rattle.maps.specs.Neighbours.{marksOf}
 use Rattle.macroblock.proofs.Sides.{above-is, left-is, corner-is, right-is}
 use borrow.Author.Needs.{needs}
-use Rattle.macroblock.proofs.cut.marks_of.Statement.{statement}
-use Rattle.macroblock.proofs.cut.marks_of.Tie as tie
+use Rattle.macroblock.proofs.cut.sides_of.Statement.{statement}
+use Rattle.macroblock.proofs.cut.sides_of.Tie as tie
 
 few : (k m : ℕ) → k < m * m → m ≤ 4 → k < 16
 few k m h l = omega (arith, mul-le-mul l l)
@@ -18,8 +18,8 @@ scan-x-requires c κs = few (c .args .k) (c .args .m) (c .pre .2) (c .pre .1)
 scan-y-requires : tie.Need-scan-y-requires
 scan-y-requires c κs = few (c .before .args .k) (c .before .args .m) (c .before .pre .2) (c .before .pre .1)
 
-has-right-requires : tie.Need-has-right-requires
-has-right-requires c κs =
+has-above-right-requires : tie.Need-has-above-right-requires
+has-above-right-requires c κs =
     let y = c .before .before .before .before in
     let x = y .before in
     let u = x .before in
@@ -37,16 +37,16 @@ returns c =
     let a = u .args in
     let ex = x .scan-x .ensures in
     let ey = y .scan-y .ensures in
-    let marks = marksOf (a .a) (a .b) (a .c) (a .d) in
+    let marks = marksOf (a .marks) in
     record {
       above-is = c₁ .choose .ensures ∙ rw ey (above-is (a .m) (a .k) marks (u .pre .0) (u .pre .2));
       left-is = c₂ .choose2 .ensures ∙ rw ex (left-is (a .m) (a .k) marks (u .pre .0) (u .pre .2));
       corner-is = c₄ .choose4 .ensures ∙ rw (c₃ .choose3 .ensures, c₂ .choose2 .ensures, ex, ey) (corner-is (a .m) (a .k) marks (u .pre .0) (u .pre .2));
-      right-is = c .has-right .ensures ∙ rw (ex, ey) (right-is (a .m) (a .k) marks (u .pre .0) (u .pre .2));
+      right-is = c .has-above-right .ensures ∙ rw (ex, ey) (right-is (a .m) (a .k) marks (u .pre .0) (u .pre .2));
     }
 
-pub marks-of-spec : {M : Type 1} → statement M
-marks-of-spec =
+pub sides-of-spec : {M : Type 1} → statement M
+sides-of-spec =
     tie.close
     (tie.spec
     scan-x-requires
@@ -55,5 +55,5 @@ marks-of-spec =
     (λ c κs. search needs)
     (λ c κs. search needs)
     (λ c κs. search needs)
-    has-right-requires
+    has-above-right-requires
     returns)
