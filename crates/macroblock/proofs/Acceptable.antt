@@ -2,7 +2,7 @@
 -- before the numbers decide alone where they refuse, and otherwise the numbers do. Assumes nothing.
 use mathlib.Core.Path.{_≡_, sym, ap, _∙_}
 use mathlib.Core.Bool.{Bool, true, cond, _&&_}
-use mathlib.Core.List.{List, [], _∷_, _++_}
+use mathlib.Core.List.{[], _∷_}
 use Prim.Native.Nat.{ℕ, _<_}
 use native.Mathlib.Omega.{arith}
 use borrow.Author.Tests.{eqb-true, lt-ltb}
@@ -10,7 +10,7 @@ use lib.Dec.{eqb, leb}
 use lib.ListN.{getD, length}
 use Rattle.laws.specs.Answer.{answer}
 use Rattle.laws.specs.Table.{allBelow}
-use Rattle.laws.proofs.Answers.{passes, answer-take}
+use Rattle.laws.proofs.Answers.{passes, answer-later, answer-earlier}
 use Rattle.laws.proofs.Tests.{and-left, and-right, all-at}
 use Rattle.samples.specs.Marks.{permittedChroma, modeAnswer}
 use Rattle.maps.specs.Neighbours.{Side}
@@ -51,11 +51,7 @@ module _ (marks : Side → Bool) (r : Record) where
 
   -- with room, the record decides: first its lists, its kind and its modes, and where they are accepted its numbers
   pub early-decide : (room : Bool) → room ≡ true → (answer (earlyRules marks r) ≡ 0 → ⊥) → rebuildAnswer room marks r ≡ answer (earlyRules marks r)
-  early-decide room e z = rw e (answer-take 3 (earlyRules marks r ++ numbersRule r ∷ []) z)
+  early-decide room e z = rw e (answer-earlier (earlyRules marks r) (numbersRule r ∷ []) z)
 
   pub numbers-decide : (room : Bool) → room ≡ true → answer (earlyRules marks r) ≡ 0 → rebuildAnswer room marks r ≡ answer (numbersRule r ∷ [])
-  numbers-decide room e z =
-      let o = passes 1 (listsGood r) (knownRule r ∷ permittedRule marks r ∷ []) z in
-      let p = passes 5 (known r) (permittedRule marks r ∷ []) (o .1) in
-      let q = passes 6 (permitted marks r) [] (p .1) in
-      rw (e, o .0, p .0, q .0)
+  numbers-decide room e z = rw e (answer-later (earlyRules marks r) (numbersRule r ∷ []) tt z)

@@ -1,7 +1,8 @@
--- Sizes and lent memory: a picture of W by H macroblocks in three planes.
+-- The three planes of a picture, and the memory that is lent for it.
 use mathlib.Core.Bool.{Bool, _&&_}
 use Prim.Native.Nat.{ℕ, _+_, _*_, _-_}
-use lib.Dec.{eqb, leb, ltb}
+use lib.Dec.{eqb, leb}
+use Rattle.maps.specs.Size.{total}
 
 pub data Plane : Type 0 where
   luma cb cr : Plane
@@ -16,17 +17,6 @@ three a b c cr = c
 abbrev pub side : Plane → ℕ
 side = three 16 8 8
 
--- how many macroblocks there are, and the address of the one in column x and row y
-abbrev pub total : ℕ → ℕ → ℕ
-total w h = h * w
-
-abbrev pub address : ℕ → ℕ → ℕ → ℕ
-address w x y = y * w + x
-
--- W is 1..120, and H is 1..68
-unfoldable pub sizeOk : ℕ → ℕ → Bool
-sizeOk w h = leb 1 w && leb w 120 && leb 1 h && leb h 68
-
 -- macroblocks of side k: the stride is at least the plane's width and at most 4096, and the plane has at least (height - 1) * stride + width bytes
 unfoldable pub planeOk : (k w h stride bytes : ℕ) → Bool
 planeOk k w h stride bytes = leb (k * w) stride && leb stride 4096 && leb ((k * h - 1) * stride + k * w) bytes
@@ -40,7 +30,3 @@ roomOk w h stride bytes done slices accepted =
     && eqb done (total w h)
     && eqb slices (total w h)
     && leb accepted (total w h)
-
--- (x, y) is a macroblock of the picture
-unfoldable pub placeOk : (w h x y : ℕ) → Bool
-placeOk w h x y = ltb x w && ltb y h

@@ -1,16 +1,9 @@
-// Sizes and lent memory.
+// The memory that is lent for a picture.
 ghost use mathlib.Core.Path.{_≡_};
 ghost use mathlib.Core.Bool.{_&&_};
 ghost use Prim.Native.Nat.{_≤_};
-ghost use Rattle.picture.specs.Size.{three, sizeOk, planeOk, roomOk, placeOk};
-ghost use Rattle.picture.specs.inner.Facts.{Size};
-
-// Whether W is 1..120 and H is 1..68.
-pub(crate) fn size_ok(w: usize, h: usize) -> bool
-    ensures { λ r. ⌜ r ≡ sizeOk w h ⌝ }
-{
-    both(both(both(w >= 1, w <= 120), h >= 1), h <= 68)
-}
+ghost use Rattle.maps.specs.Size.{Size};
+ghost use Rattle.picture.specs.Planes.{three, planeOk, roomOk};
 
 pub(crate) fn both(p: bool, q: bool) -> bool
     ensures { λ r. ⌜ r ≡ p && q ⌝ }
@@ -19,7 +12,7 @@ pub(crate) fn both(p: bool, q: bool) -> bool
 }
 
 // Whether a plane has a good stride and enough bytes; `side` is a macroblock's.
-pub(crate) fn plane_ok(side: usize, w: usize, h: usize, stride: usize, bytes: usize) -> bool
+fn plane_ok(side: usize, w: usize, h: usize, stride: usize, bytes: usize) -> bool
     requires { ⌜ (1 ≤ side) × (side ≤ 16) × Size w h ⌝ }
     ensures { λ r. ⌜ r ≡ planeOk side w h stride bytes ⌝ }
 {
@@ -49,7 +42,8 @@ pub(crate) fn room_ok(
     accepted: u32,
 ) -> bool
     requires { ⌜ Size w h ⌝ }
-    ensures { λ r. ⌜ r ≡ roomOk w h (three «luma_stride» «cb_stride» «cr_stride») (three «luma_bytes» «cb_bytes» «cr_bytes») «done_bytes» slices accepted ⌝ }
+    ensures { λ r. ⌜ r ≡ roomOk w h (three «luma_stride» «cb_stride» «cr_stride»)
+        (three «luma_bytes» «cb_bytes» «cr_bytes») «done_bytes» slices accepted ⌝ }
 {
     let luma = plane_ok(16, w, h, luma_stride, luma_bytes);
     let cb = plane_ok(8, w, h, cb_stride, cb_bytes);
@@ -60,11 +54,4 @@ pub(crate) fn room_ok(
         slices == total,
     );
     both(maps, accepted as usize <= total)
-}
-
-// Whether (x, y) is a macroblock of the picture.
-pub(crate) fn place_ok(w: usize, h: usize, x: usize, y: usize) -> bool
-    ensures { λ r. ⌜ r ≡ placeOk w h x y ⌝ }
-{
-    both(x < w, y < h)
 }

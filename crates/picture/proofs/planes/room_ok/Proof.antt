@@ -1,10 +1,10 @@
--- `picture::size::room_ok` meets its contract: its six tests are the rule's. Assumes nothing.
+-- `picture::planes::room_ok` meets its contract: its six tests are the rule's. Assumes nothing.
 use native.Mathlib.Omega.{arith}
 use Rattle.laws.proofs.Digits.{mul-most}
-use Rattle.picture.specs.Size.{roomOk}
+use Rattle.picture.specs.Planes.{roomOk}
 use borrow.Author.Needs.{needs}
-use Rattle.picture.proofs.size.room_ok.Statement.{statement}
-use Rattle.picture.proofs.size.room_ok.Tie as tie
+use Rattle.picture.proofs.planes.room_ok.Statement.{statement}
+use Rattle.picture.proofs.planes.room_ok.Tie as tie
 
 mul-total : tie.Need-mul-total
 mul-total c =
