@@ -1,65 +1,57 @@
--- A record that is not refused: each luma mode and the chroma mode are ones that the predictors answer 0 for. Assumes nothing.
+-- A record that is not refused: its lists have their lengths, and each luma mode and the chroma mode are ones that the predictors answer 0 for. The rules
+-- before the numbers decide alone where they refuse, and otherwise the numbers do. Assumes nothing.
 use mathlib.Core.Path.{_≡_, sym, ap, _∙_}
 use mathlib.Core.Bool.{Bool, true, cond, _&&_}
-use mathlib.Core.List.{List, [], _∷_}
+use mathlib.Core.List.{[], _∷_}
 use Prim.Native.Nat.{ℕ, _<_}
 use native.Mathlib.Omega.{arith}
-use borrow.Author.Tests.{lt-ltb}
+use borrow.Author.Tests.{eqb-true, lt-ltb}
 use lib.Dec.{eqb, leb}
-use lib.ListN.{getD}
-use Rattle.laws.specs.Answer.{_unless_, answer}
+use lib.ListN.{getD, length}
+use Rattle.laws.specs.Answer.{answer}
 use Rattle.laws.specs.Table.{allBelow}
-use Rattle.laws.proofs.Answers.{passes, answer-take}
+use Rattle.laws.proofs.Answers.{passes, answer-later, answer-earlier}
 use Rattle.laws.proofs.Tests.{and-left, and-right, all-at}
 use Rattle.samples.specs.Marks.{permittedChroma, modeAnswer}
 use Rattle.maps.specs.Neighbours.{Side}
+use Rattle.maps.specs.Neighbours.Side.{A, B, D}
 use Rattle.macroblock.specs.declared.Record.{Record}
-use Rattle.macroblock.specs.Cut.{marksOf}
-use Rattle.macroblock.specs.Rules.{used, lastMode, modeKnown, known, permittedAt, permitted, numbersGood, rebuildAnswer}
+use Rattle.macroblock.specs.Rules.{used, lastMode, modeKnown, listsGood, known, permittedAt, permitted, permittedRule, knownRule, numbersRule, earlyRules, rebuildAnswer}
 use Rattle.macroblock.specs.inner.Blocks.{modeFine}
 use Rattle.macroblock.proofs.ByKind.{used-few}
 
--- with room, the record decides: first its kind and its modes, and where they are accepted its numbers
-abbrev byModes : (Side → Bool) → Record → ℕ
-byModes marks r = answer (6 unless known r ∷ 7 unless permitted marks r ∷ [])
-
-pub modes-decide : (room : Bool) (marks : Side → Bool) (r : Record) → room ≡ true → (byModes marks r ≡ 0 → ⊥) → rebuildAnswer room marks r ≡ byModes marks r
-modes-decide room marks r e z = rw e (answer-take 2 (6 unless known r ∷ 7 unless permitted marks r ∷ 8 unless numbersGood r ∷ []) z)
-
-pub numbers-decide : (room : Bool) (marks : Side → Bool) (r : Record) → room ≡ true → byModes marks r ≡ 0 → rebuildAnswer room marks r ≡ answer (8 unless numbersGood r ∷ [])
-numbers-decide room marks r e z =
-    let p = passes 5 (known r) (7 unless permitted marks r ∷ []) z in
-    let q = passes 6 (permitted marks r) [] (p .1) in
-    rw (e, p .0, q .0)
-
-module _ (kind chroma : ℕ) (modes : List ℕ) (a b c d : Bool) where
-  abbrev isKnown : Bool
-  isKnown = leb kind 2 && allBelow 16 (modeKnown kind modes) && leb chroma 3
-
-  abbrev isPermitted : Bool
-  isPermitted = allBelow (used kind) (permittedAt kind modes (marksOf a b c d)) && permittedChroma b a d chroma
-
+module _ (marks : Side → Bool) (r : Record) where
   pub record Acceptable : Type 0 where
-    pub luma : (k : ℕ) → k < used kind → modeFine kind modes (marksOf a b c d) k ≡ 0
-    pub chroma-fine : modeAnswer 3 (permittedChroma b a d) chroma ≡ 0
+    pub sixteen : length (r .modes) ≡ 16
+    pub all : length (r .numbers) ≡ 384
+    pub luma : (k : ℕ) → k < used (r .kind) → modeFine (r .kind) (r .modes) marks k ≡ 0
+    pub chroma-fine : modeAnswer 3 (permittedChroma (marks B) (marks A) (marks D)) (r .«chroma_mode») ≡ 0
 
   -- a used mode that is known is at most the last
-  used-known : (k : ℕ) → k < used kind → allBelow 16 (modeKnown kind modes) ≡ true → leb (getD modes k 0) (lastMode kind) ≡ true
+  used-known : (k : ℕ) → k < used (r .kind) → allBelow 16 (modeKnown (r .kind) (r .modes)) ≡ true → leb (getD (r .modes) k 0) (lastMode (r .kind)) ≡ true
   used-known k h e =
-      ap (λ t. cond t (leb (getD modes k 0) (lastMode kind)) (eqb (getD modes k 0) 0)) (sym (lt-ltb k (used kind) h)) ∙ all-at 16 (modeKnown kind modes) e k (omega (arith, used-few kind))
+      ap (λ t. cond t (leb (getD (r .modes) k 0) (lastMode (r .kind))) (eqb (getD (r .modes) k 0) 0)) (sym (lt-ltb k (used (r .kind)) h))
+      ∙ all-at 16 (modeKnown (r .kind) (r .modes)) e k (omega (arith, used-few (r .kind)))
 
-  pub acceptable : answer (6 unless isKnown ∷ 7 unless isPermitted ∷ []) ≡ 0 → Acceptable
+  pub acceptable : answer (earlyRules marks r) ≡ 0 → Acceptable
+  unfolding listsGood known permitted
   acceptable e =
-      let p = passes 5 isKnown (7 unless isPermitted ∷ []) e in
-      let q = passes 6 isPermitted [] (p .1) in
-      let l = and-left (leb kind 2 && allBelow 16 (modeKnown kind modes)) (leb chroma 3) (p .0) in
-      let k = and-right (leb kind 2) (allBelow 16 (modeKnown kind modes)) l in
-      let m = and-left (allBelow (used kind) (permittedAt kind modes (marksOf a b c d))) (permittedChroma b a d chroma) (q .0) in
+      let o = passes 1 (listsGood r) (knownRule r ∷ permittedRule marks r ∷ []) e in
+      let p = passes 5 (known r) (permittedRule marks r ∷ []) (o .1) in
+      let q = passes 6 (permitted marks r) [] (p .1) in
+      let t₁ = leb (r .kind) 2 in let t₂ = allBelow 16 (modeKnown (r .kind) (r .modes)) in let t₃ = leb (r .«chroma_mode») 3 in
+      let t₄ = allBelow (used (r .kind)) (permittedAt (r .kind) (r .modes) marks) in
+      let t₅ = permittedChroma (marks B) (marks A) (marks D) (r .«chroma_mode») in
       record {
-        luma = λ j h. rw (used-known j h k, all-at (used kind) (permittedAt kind modes (marksOf a b c d)) m j h);
-        chroma-fine =
-            rw (
-              and-right (leb kind 2 && allBelow 16 (modeKnown kind modes)) (leb chroma 3) (p .0),
-              and-right (allBelow (used kind) (permittedAt kind modes (marksOf a b c d))) (permittedChroma b a d chroma) (q .0),
-            );
+        sixteen = eqb-true (length (r .modes)) 16 (and-left (eqb (length (r .modes)) 16) (eqb (length (r .numbers)) 384) (o .0));
+        all = eqb-true (length (r .numbers)) 384 (and-right (eqb (length (r .modes)) 16) (eqb (length (r .numbers)) 384) (o .0));
+        luma = λ j h. rw (used-known j h (and-right t₁ t₂ (and-left (t₁ && t₂) t₃ (p .0))), all-at (used (r .kind)) (permittedAt (r .kind) (r .modes) marks) (and-left t₄ t₅ (q .0)) j h);
+        chroma-fine = rw (and-right (t₁ && t₂) t₃ (p .0), and-right t₄ t₅ (q .0));
       }
+
+  -- with room, the record decides: first its lists, its kind and its modes, and where they are accepted its numbers
+  pub early-decide : (room : Bool) → room ≡ true → (answer (earlyRules marks r) ≡ 0 → ⊥) → rebuildAnswer room marks r ≡ answer (earlyRules marks r)
+  early-decide room e z = rw e (answer-earlier (earlyRules marks r) (numbersRule r ∷ []) z)
+
+  pub numbers-decide : (room : Bool) → room ≡ true → answer (earlyRules marks r) ≡ 0 → rebuildAnswer room marks r ≡ answer (numbersRule r ∷ [])
+  numbers-decide room e z = rw e (answer-later (earlyRules marks r) (numbersRule r ∷ []) tt z)

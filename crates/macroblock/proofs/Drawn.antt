@@ -11,8 +11,9 @@ use Rattle.laws.specs.Table.{blockOf}
 use Rattle.laws.proofs.Tables.{getD-table}
 use Rattle.residual.specs.Clip.{Clip1}
 use Rattle.samples.specs.Marks.{modeAnswer}
-use Rattle.maps.specs.Neighbours.{Side}
-use Rattle.macroblock.specs.Cut.{Cut, marksOf, scanX, scanY, has}
+use Rattle.maps.specs.Neighbours.{Side, marksOf}
+use Rattle.maps.specs.declared.neighbours.Marks.{Marks}
+use Rattle.macroblock.specs.Cut.{Cut, scanX, scanY, has}
 use Rattle.maps.specs.Neighbours.Side.{A, B, C, D}
 use Rattle.macroblock.specs.Square.{putBlock, around, Rule, part}
 use Rattle.macroblock.specs.inner.Blocks.{Scan, Marked, Fits, Beside}
@@ -66,9 +67,9 @@ pub top-in : (q s x y n : ℕ) → Fits q s y x n → y * q + (q - 1) ≤ n
 top-in q s x y n F = in-row q s y x n (q - 1) F (let h = F .some in omega arith) .line
 
 -- a macroblock that is one block
-pub whole-marked : (a b c d : Bool) → Marked 1 (marksOf a b c d) 0 b a d c
+pub whole-marked : (marks : Marks) → Marked 1 (marksOf marks) 0 (marks .b) (marks .a) (marks .d) (marks .c)
 unfolding has scanX scanY
-whole-marked a b c d = record { above-is = refl; left-is = refl; corner-is = refl; right-is = refl }
+whole-marked marks = record { above-is = refl; left-is = refl; corner-is = refl; right-is = refl }
 
 pub whole-row : (y : ℕ) → y ≡ y * 1 + scanY 0
 unfolding scanY

@@ -10,13 +10,6 @@ use Rattle.residual.specs.Nnz.{blkIdx}
 use Rattle.maps.specs.Neighbours.{Side}
 use Rattle.maps.specs.Neighbours.Side.{A, B, C, D}
 
--- which of them are available
-abbrev pub marksOf : Bool → Bool → Bool → Bool → Side → Bool
-marksOf a b c d A = a
-marksOf a b c d B = b
-marksOf a b c d C = c
-marksOf a b c d D = d
-
 -- blocks of `side` by `side` samples, `across` of them in a row and in a column of the square; a block's rule reads `wide` samples above it
 pub record Cut : Type 0 where
   pub side : ℕ

@@ -19,6 +19,10 @@ use Rattle.macroblock.specs.declared.Record.{Record}
 use Rattle.macroblock.specs.Cut.{Cut, four, eight, whole}
 use Rattle.macroblock.specs.Square.{Rule, square}
 
+-- a record by its parts, as a call is given them
+abbrev pub recordOf : ℕ → List ℕ → ℕ → List ℤ → Record
+recordOf kind modes chroma numbers = record { kind = kind; modes = modes; «chroma_mode» = chroma; numbers = numbers }
+
 -- ---- residuals, from a record's numbers
 -- of coefficient block b: sixteen for luma in scan order, then four for Cb and four for Cr
 unfoldable pub residual4x4 : List ℤ → ℕ → ℕ → ℕ → ℤ

@@ -1,10 +1,10 @@
 -- What a macroblock call is refused for: refusals 2, 6, 7 and 8 of docs/RULES.md, in its words.
 use mathlib.Core.Bool.{Bool, cond, not, _&&_, _||_}
-use mathlib.Core.List.{List, [], _∷_}
+use mathlib.Core.List.{List, [], _∷_, _++_}
 use Prim.Native.Nat.{ℕ, zero, suc, _+_, _*_, _-_}
 use lib.Dec.{eqb, ltb, leb}
-use lib.ListN.{getD}
-use Rattle.laws.specs.Answer.{_unless_, answer}
+use lib.ListN.{getD, length}
+use Rattle.laws.specs.Answer.{Check, _unless_, answer}
 use Rattle.laws.specs.Table.{allBelow}
 use Rattle.samples.specs.Marks.{permittedNxN, permitted16x16, permittedChroma}
 use Rattle.residual.specs.Numbers.{allInRange}
@@ -30,6 +30,10 @@ room q len s x y marks =
 abbrev pub rooms : (x y lumaLen lumaStride cbLen cbStride crLen crStride : ℕ) → (Side → Bool) → Bool
 rooms x y lumaLen lumaStride cbLen cbStride crLen crStride marks =
     room 16 lumaLen lumaStride x y marks && room 8 cbLen cbStride x y marks && room 8 crLen crStride x y marks
+
+-- 2: a macroblock has 16 modes, used or not, and 384 numbers
+unfoldable pub listsGood : Record → Bool
+listsGood r = eqb (length (r .modes)) 16 && eqb (length (r .numbers)) 384
 
 -- 6: the kind is known, each mode that it uses is known, and each unused one is 0
 abbrev pub used : ℕ → ℕ
@@ -67,6 +71,26 @@ permitted marks r =
 unfoldable pub numbersGood : Record → Bool
 numbersGood r = allInRange (r .numbers)
 
+-- ---- the lines of the call's table
+abbrev pub roomRule : (rooms : Bool) → Check
+roomRule rooms = 2 unless rooms
+
+abbrev pub listRule : Record → Check
+listRule r = 2 unless listsGood r
+
+abbrev pub knownRule : Record → Check
+knownRule r = 6 unless known r
+
+abbrev pub permittedRule : (Side → Bool) → Record → Check
+permittedRule marks r = 7 unless permitted marks r
+
+abbrev pub numbersRule : Record → Check
+numbersRule r = 8 unless numbersGood r
+
+-- those that come before any number of the record is read
+abbrev pub earlyRules : (Side → Bool) → Record → List Check
+earlyRules marks r = listRule r ∷ knownRule r ∷ permittedRule marks r ∷ []
+
 -- the call's answer
 abbrev pub rebuildAnswer : (rooms : Bool) → (Side → Bool) → Record → ℕ
-rebuildAnswer rooms marks r = answer (2 unless rooms ∷ 6 unless known r ∷ 7 unless permitted marks r ∷ 8 unless numbersGood r ∷ [])
+rebuildAnswer rooms marks r = answer (roomRule rooms ∷ earlyRules marks r ++ numbersRule r ∷ [])

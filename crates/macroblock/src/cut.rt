@@ -4,9 +4,11 @@ ghost use mathlib.Core.Bool.{true, cond, _&&_};
 ghost use Prim.Native.Nat.{_+_, _*_, _-_, _≤_, _<_};
 ghost use lib.Dec.{eqb, ltb, leb};
 ghost use Rattle.residual.specs.Nnz.{blkIdx};
-ghost use Rattle.macroblock.specs.Cut.{marksOf, scanX, scanY};
+ghost use Rattle.maps.specs.Neighbours.{marksOf};
+ghost use Rattle.macroblock.specs.Cut.{scanX, scanY};
 ghost use Rattle.macroblock.specs.Kinds.{cutFor};
 ghost use Rattle.macroblock.specs.inner.Blocks.{Scan, Marked};
+use maps::neighbours::Marks;
 
 // How many blocks of a kind's luma are in a row.
 pub(crate) fn across(kind: u8) -> usize
@@ -45,34 +47,34 @@ fn blk_idx(x: usize, y: usize) -> usize
 }
 
 // Which sides of a block are there: above, left, the corner, and above and to the right.
-pub(crate) struct Marks {
+pub(crate) struct Sides {
     pub above: bool,
     pub left: bool,
     pub corner: bool,
-    pub right: bool,
+    pub above_right: bool,
 }
 
-// The marks of block k of m across, from those of the neighbour macroblocks.
-pub(crate) fn marks_of(k: usize, m: usize, a: bool, b: bool, c: bool, d: bool) -> Marks
+// The sides of block k of m across, from the marks of the neighbour macroblocks.
+pub(crate) fn sides_of(k: usize, m: usize, marks: Marks) -> Sides
     requires { ⌜ Scan m × (m ≤ 4) × (k < m * m) ⌝ }
-    ensures { λ r. ⌜ Marked m (marksOf a b c d) k (r .above) (r .left) (r .corner) (r .right) ⌝ }
+    ensures { λ r. ⌜ Marked m (marksOf marks) k (r .above) (r .left) (r .corner) (r .«above_right») ⌝ }
 {
     let u = scan_x(k);
     let v = scan_y(k);
-    let above = choose(v == 0, b, true);
-    let left = choose(u == 0, a, true);
-    let corner = choose(v == 0, choose(u == 0, d, b), left);
-    let right = has_right(k, u, v, m, b, c);
-    Marks {
+    let above = choose(v == 0, marks.b, true);
+    let left = choose(u == 0, marks.a, true);
+    let corner = choose(v == 0, choose(u == 0, marks.d, marks.b), left);
+    let above_right = has_above_right(k, u, v, m, marks.b, marks.c);
+    Sides {
         above,
         left,
         corner,
-        right,
+        above_right,
     }
 }
 
 // Whether the samples above and to the right of block k, in column u and row v, are there.
-fn has_right(k: usize, u: usize, v: usize, m: usize, b: bool, c: bool) -> bool
+fn has_above_right(k: usize, u: usize, v: usize, m: usize, b: bool, c: bool) -> bool
     requires { ⌜ (u < m) × (v < m) × (m ≤ 4) ⌝ }
     ensures { λ r. ⌜ r ≡ cond (eqb v 0) (cond (leb (u + 2) m) b c) (leb (u + 2) m && ltb (blkIdx (u + 1) (v - 1)) k) ⌝ }
 {

@@ -2,9 +2,10 @@
 ghost use mathlib.Core.Path.{_≡_};
 ghost use lib.ListN.{length};
 ghost use Rattle.laws.specs.Answer.{answer, written};
-ghost use Rattle.macroblock.specs.Cut.{marksOf};
-ghost use Rattle.macroblock.specs.Kinds.{lumaSquare, cbSquare, crSquare};
+ghost use Rattle.maps.specs.Neighbours.{marksOf};
+ghost use Rattle.macroblock.specs.Kinds.{recordOf, lumaSquare, cbSquare, crSquare};
 ghost use Rattle.macroblock.specs.Rules.{rooms, rebuildAnswer};
+use maps::neighbours::Marks;
 use planes::chroma_square;
 use planes::luma_square;
 use residuals::residuals_of;
@@ -27,7 +28,7 @@ pub struct Record {
     pub numbers: [i32; 384],
 }
 
-// Rebuilds macroblock (x, y) of three planes, whose neighbours A, B, C and D have the marks a, b, c and d.
+// Rebuilds macroblock (x, y) of three planes from a record's parts, where its neighbours have these marks.
 pub fn rebuild(
     x: u32,
     y: u32,
@@ -37,19 +38,22 @@ pub fn rebuild(
     cb_stride: usize,
     cr: &mut [u8],
     cr_stride: usize,
-    a: bool,
-    b: bool,
-    c: bool,
-    d: bool,
-    record: Record,
+    marks: Marks,
+    kind: u8,
+    modes: &[u8],
+    chroma_mode: u8,
+    numbers: &[i32],
 ) -> u32
-    ensures { λ r. ⌜ r ≡ rebuildAnswer (rooms x y (length (now (luma .entry))) «luma_stride» (length (now (cb .entry))) «cb_stride» (length (now (cr .entry))) «cr_stride» (marksOf a b c d)) (marksOf a b c d) «record» ⌝ }
-    ensures { λ r. ⌜ now (luma .exit) ≡ written r (now (luma .entry)) (lumaSquare x y (marksOf a b c d) «record» «luma_stride» (now (luma .entry))) ⌝ }
-    ensures { λ r. ⌜ now (cb .exit) ≡ written r (now (cb .entry)) (cbSquare x y (marksOf a b c d) «record» «cb_stride» (now (cb .entry))) ⌝ }
-    ensures { λ r. ⌜ now (cr .exit) ≡ written r (now (cr .entry)) (crSquare x y (marksOf a b c d) «record» «cr_stride» (now (cr .entry))) ⌝ }
+    ensures { λ r. ⌜ r ≡ rebuildAnswer
+        (rooms x y (length (now (luma .entry))) «luma_stride» (length (now (cb .entry))) «cb_stride» (length (now (cr .entry))) «cr_stride» (marksOf marks))
+        (marksOf marks) (recordOf kind (now (modes .entry)) «chroma_mode» (now (numbers .entry))) ⌝ }
+    ensures { λ r. ⌜ now (luma .exit) ≡ written r (now (luma .entry))
+        (lumaSquare x y (marksOf marks) (recordOf kind (now (modes .entry)) «chroma_mode» (now (numbers .entry))) «luma_stride» (now (luma .entry))) ⌝ }
+    ensures { λ r. ⌜ now (cb .exit) ≡ written r (now (cb .entry))
+        (cbSquare x y (marksOf marks) (recordOf kind (now (modes .entry)) «chroma_mode» (now (numbers .entry))) «cb_stride» (now (cb .entry))) ⌝ }
+    ensures { λ r. ⌜ now (cr .exit) ≡ written r (now (cr .entry))
+        (crSquare x y (marksOf marks) (recordOf kind (now (modes .entry)) «chroma_mode» (now (numbers .entry))) «cr_stride» (now (cr .entry))) ⌝ }
 {
-    let modes = record.modes;
-    let mut residuals = record.numbers;
     let x = x as usize;
     let y = y as usize;
     if !has_rooms(
@@ -61,59 +65,21 @@ pub fn rebuild(
         cb_stride,
         cr.len(),
         cr_stride,
-        a,
-        b,
-        c,
-        d,
+        marks,
     ) {
         return 2;
     }
-    let answer = record_answer(record.kind, &modes, record.chroma_mode, a, b, c, d);
+    let answer = record_answer(marks, kind, modes, chroma_mode, numbers);
     if answer != 0 {
         return answer;
     }
-    let answer = residuals_of(record.kind, &mut residuals);
+    let mut residuals = [0i32; 384];
+    let answer = residuals_of(kind, numbers, &mut residuals);
     if answer != 0 {
         return answer;
     }
-    luma_square(
-        luma,
-        luma_stride,
-        x,
-        y,
-        a,
-        b,
-        c,
-        d,
-        record.kind,
-        &modes,
-        &residuals,
-    );
-    chroma_square(
-        cb,
-        cb_stride,
-        x,
-        y,
-        a,
-        b,
-        c,
-        d,
-        record.chroma_mode,
-        &residuals,
-        16,
-    );
-    chroma_square(
-        cr,
-        cr_stride,
-        x,
-        y,
-        a,
-        b,
-        c,
-        d,
-        record.chroma_mode,
-        &residuals,
-        20,
-    );
+    luma_square(luma, luma_stride, x, y, marks, kind, modes, &residuals);
+    chroma_square(cb, cb_stride, x, y, marks, chroma_mode, &residuals, 16);
+    chroma_square(cr, cr_stride, x, y, marks, chroma_mode, &residuals, 20);
     0
 }

@@ -5,15 +5,16 @@ ghost use Prim.Native.Nat.{ℕ, _+_, _≤_, _<_};
 ghost use lib.IntN.{ℤ};
 ghost use lib.ListN.{length};
 ghost use Rattle.samples.specs.Marks.{permittedChroma, modeAnswer};
-ghost use Rattle.macroblock.specs.Cut.{marksOf, four, eight, whole};
+ghost use Rattle.maps.specs.Neighbours.{marksOf};
+ghost use Rattle.macroblock.specs.Cut.{four, eight, whole};
 ghost use Rattle.macroblock.specs.Kinds.{cutFor, lumaRule, chromaRule};
 ghost use Rattle.macroblock.specs.Rules.{used};
 ghost use Rattle.macroblock.specs.Square.{part, square};
 ghost use Rattle.macroblock.specs.inner.Blocks.{Fits, Beside, modeFine, Transformed, firstFor};
-use super::cut::Marks;
-use super::cut::marks_of;
+use super::cut::Sides;
 use super::cut::scan_x;
 use super::cut::scan_y;
+use super::cut::sides_of;
 use super::predict::predict_4x4;
 use super::predict::predict_8x8;
 use super::predict::predict_16x16;
@@ -22,6 +23,7 @@ use super::put::put_4x4;
 use super::put::put_8x8;
 use super::put::put_pieces;
 use super::rules::used_modes;
+use maps::neighbours::Marks;
 
 // Luma block k of kind 0.
 fn block_4x4(
@@ -29,23 +31,20 @@ fn block_4x4(
     stride: usize,
     x: usize,
     y: usize,
-    a: bool,
-    b: bool,
-    c: bool,
-    d: bool,
-    modes: &[u8; 16],
+    marks: Marks,
+    modes: &[u8],
     residuals: &[i32],
     k: usize,
 )
-    requires { ⌜ Fits 16 stride y x (length (now plane)) × Beside 16 stride y x b a d c × (k < 16) ⌝ }
-    requires { ⌜ (modeFine 0 (now modes) (marksOf a b c d) k ≡ 0) × (length (now residuals) ≡ 384) ⌝ }
+    requires { ⌜ Fits 16 stride y x (length (now plane)) × Beside 16 stride y x (marks .b) (marks .a) (marks .d) (marks .c) × (k < 16) ⌝ }
+    requires { ⌜ (modeFine 0 (now modes) (marksOf marks) k ≡ 0) × (length (now modes) ≡ 16) × (length (now residuals) ≡ 384) ⌝ }
     ensures { λ _. ⌜ ((numbers : List ℤ) → Transformed 0 numbers (now (residuals .entry))
-        → now (plane .exit) ≡ part four (lumaRule 0 (now (modes .entry)) numbers) stride x y (marksOf a b c d) k (now (plane .entry))) ⌝ }
+        → now (plane .exit) ≡ part four (lumaRule 0 (now (modes .entry)) numbers) stride x y (marksOf marks) k (now (plane .entry))) ⌝ }
 {
     let row = y * 4 + scan_y(k);
     let column = x * 4 + scan_x(k);
-    let m = marks_of(k, 4, a, b, c, d);
-    let pred = predict_4x4(plane, stride, row, column, m, modes[k]);
+    let sides = sides_of(k, 4, marks);
+    let pred = predict_4x4(plane, stride, row, column, sides, modes[k]);
     put_4x4(plane, stride, row, column, &pred, 0, 4, residuals, k);
 }
 
@@ -55,23 +54,20 @@ fn block_8x8(
     stride: usize,
     x: usize,
     y: usize,
-    a: bool,
-    b: bool,
-    c: bool,
-    d: bool,
-    modes: &[u8; 16],
+    marks: Marks,
+    modes: &[u8],
     residuals: &[i32],
     k: usize,
 )
-    requires { ⌜ Fits 16 stride y x (length (now plane)) × Beside 16 stride y x b a d c × (k < 4) ⌝ }
-    requires { ⌜ (modeFine 1 (now modes) (marksOf a b c d) k ≡ 0) × (length (now residuals) ≡ 384) ⌝ }
+    requires { ⌜ Fits 16 stride y x (length (now plane)) × Beside 16 stride y x (marks .b) (marks .a) (marks .d) (marks .c) × (k < 4) ⌝ }
+    requires { ⌜ (modeFine 1 (now modes) (marksOf marks) k ≡ 0) × (length (now modes) ≡ 16) × (length (now residuals) ≡ 384) ⌝ }
     ensures { λ _. ⌜ ((numbers : List ℤ) → Transformed 16 numbers (now (residuals .entry))
-        → now (plane .exit) ≡ part eight (lumaRule 1 (now (modes .entry)) numbers) stride x y (marksOf a b c d) k (now (plane .entry))) ⌝ }
+        → now (plane .exit) ≡ part eight (lumaRule 1 (now (modes .entry)) numbers) stride x y (marksOf marks) k (now (plane .entry))) ⌝ }
 {
     let row = y * 2 + scan_y(k);
     let column = x * 2 + scan_x(k);
-    let m = marks_of(k, 2, a, b, c, d);
-    let pred = predict_8x8(plane, stride, row, column, m, modes[k]);
+    let sides = sides_of(k, 2, marks);
+    let pred = predict_8x8(plane, stride, row, column, sides, modes[k]);
     put_8x8(plane, stride, row, column, &pred, residuals, k);
 }
 
@@ -81,25 +77,22 @@ fn block_16x16(
     stride: usize,
     x: usize,
     y: usize,
-    a: bool,
-    b: bool,
-    c: bool,
-    d: bool,
-    modes: &[u8; 16],
+    marks: Marks,
+    modes: &[u8],
     residuals: &[i32],
 )
-    requires { ⌜ Fits 16 stride y x (length (now plane)) × Beside 16 stride y x b a d c ⌝ }
-    requires { ⌜ (modeFine 2 (now modes) (marksOf a b c d) 0 ≡ 0) × (length (now residuals) ≡ 384) ⌝ }
+    requires { ⌜ Fits 16 stride y x (length (now plane)) × Beside 16 stride y x (marks .b) (marks .a) (marks .d) (marks .c) ⌝ }
+    requires { ⌜ (modeFine 2 (now modes) (marksOf marks) 0 ≡ 0) × (length (now modes) ≡ 16) × (length (now residuals) ≡ 384) ⌝ }
     ensures { λ _. ⌜ ((numbers : List ℤ) → Transformed 0 numbers (now (residuals .entry))
-        → now (plane .exit) ≡ part (whole 16) (lumaRule 2 (now (modes .entry)) numbers) stride x y (marksOf a b c d) 0 (now (plane .entry))) ⌝ }
+        → now (plane .exit) ≡ part (whole 16) (lumaRule 2 (now (modes .entry)) numbers) stride x y (marksOf marks) 0 (now (plane .entry))) ⌝ }
 {
-    let m = Marks {
-        above: b,
-        left: a,
-        corner: d,
-        right: c,
+    let sides = Sides {
+        above: marks.b,
+        left: marks.a,
+        corner: marks.d,
+        above_right: marks.c,
     };
-    let pred = predict_16x16(plane, stride, y, x, m, modes[0]);
+    let pred = predict_16x16(plane, stride, y, x, sides, modes[0]);
     put_pieces(plane, stride, 4, y, x, &pred, residuals, 0);
 }
 
@@ -109,26 +102,23 @@ fn luma_block(
     stride: usize,
     x: usize,
     y: usize,
-    a: bool,
-    b: bool,
-    c: bool,
-    d: bool,
+    marks: Marks,
     kind: u8,
-    modes: &[u8; 16],
+    modes: &[u8],
     residuals: &[i32],
     k: usize,
 )
-    requires { ⌜ Fits 16 stride y x (length (now plane)) × Beside 16 stride y x b a d c × (k < used kind) ⌝ }
-    requires { ⌜ (modeFine kind (now modes) (marksOf a b c d) k ≡ 0) × (length (now residuals) ≡ 384) ⌝ }
+    requires { ⌜ Fits 16 stride y x (length (now plane)) × Beside 16 stride y x (marks .b) (marks .a) (marks .d) (marks .c) × (k < used kind) ⌝ }
+    requires { ⌜ (modeFine kind (now modes) (marksOf marks) k ≡ 0) × (length (now modes) ≡ 16) × (length (now residuals) ≡ 384) ⌝ }
     ensures { λ _. ⌜ ((numbers : List ℤ) → Transformed (firstFor kind) numbers (now (residuals .entry))
-        → now (plane .exit) ≡ part (cutFor kind) (lumaRule kind (now (modes .entry)) numbers) stride x y (marksOf a b c d) k (now (plane .entry))) ⌝ }
+        → now (plane .exit) ≡ part (cutFor kind) (lumaRule kind (now (modes .entry)) numbers) stride x y (marksOf marks) k (now (plane .entry))) ⌝ }
 {
     if kind == 0 {
-        block_4x4(plane, stride, x, y, a, b, c, d, modes, residuals, k);
+        block_4x4(plane, stride, x, y, marks, modes, residuals, k);
     } else if kind == 1 {
-        block_8x8(plane, stride, x, y, a, b, c, d, modes, residuals, k);
+        block_8x8(plane, stride, x, y, marks, modes, residuals, k);
     } else {
-        block_16x16(plane, stride, x, y, a, b, c, d, modes, residuals);
+        block_16x16(plane, stride, x, y, marks, modes, residuals);
     }
 }
 
@@ -138,23 +128,20 @@ pub(crate) fn luma_square(
     stride: usize,
     x: usize,
     y: usize,
-    a: bool,
-    b: bool,
-    c: bool,
-    d: bool,
+    marks: Marks,
     kind: u8,
-    modes: &[u8; 16],
+    modes: &[u8],
     residuals: &[i32],
 )
-    requires { ⌜ Fits 16 stride y x (length (now plane)) × Beside 16 stride y x b a d c ⌝ }
-    requires { ⌜ ((k : ℕ) → k < used kind → modeFine kind (now modes) (marksOf a b c d) k ≡ 0) × (length (now residuals) ≡ 384) ⌝ }
+    requires { ⌜ Fits 16 stride y x (length (now plane)) × Beside 16 stride y x (marks .b) (marks .a) (marks .d) (marks .c) ⌝ }
+    requires { ⌜ ((k : ℕ) → k < used kind → modeFine kind (now modes) (marksOf marks) k ≡ 0) × (length (now modes) ≡ 16) × (length (now residuals) ≡ 384) ⌝ }
     ensures { λ _. ⌜ ((numbers : List ℤ) → Transformed (firstFor kind) numbers (now (residuals .entry))
-        → now (plane .exit) ≡ square (cutFor kind) (lumaRule kind (now (modes .entry)) numbers) stride x y (marksOf a b c d) (now (plane .entry))) ⌝ }
+        → now (plane .exit) ≡ square (cutFor kind) (lumaRule kind (now (modes .entry)) numbers) stride x y (marksOf marks) (now (plane .entry))) ⌝ }
 {
     let n = used_modes(kind);
     let mut k = 0;
     while k < n {
-        luma_block(plane, stride, x, y, a, b, c, d, kind, modes, residuals, k);
+        luma_block(plane, stride, x, y, marks, kind, modes, residuals, k);
         k += 1;
     }
 }
@@ -165,25 +152,22 @@ pub(crate) fn chroma_square(
     stride: usize,
     x: usize,
     y: usize,
-    a: bool,
-    b: bool,
-    c: bool,
-    d: bool,
+    marks: Marks,
     mode: u8,
     residuals: &[i32],
     base: usize,
 )
-    requires { ⌜ Fits 8 stride y x (length (now plane)) × Beside 8 stride y x b a d c ⌝ }
-    requires { ⌜ (modeAnswer 3 (permittedChroma b a d) mode ≡ 0) × (length (now residuals) ≡ 384) × (base + 4 ≤ 24) ⌝ }
+    requires { ⌜ Fits 8 stride y x (length (now plane)) × Beside 8 stride y x (marks .b) (marks .a) (marks .d) (marks .c) ⌝ }
+    requires { ⌜ (modeAnswer 3 (permittedChroma (marks .b) (marks .a) (marks .d)) mode ≡ 0) × (length (now residuals) ≡ 384) × (base + 4 ≤ 24) ⌝ }
     ensures { λ _. ⌜ ((first : ℕ) (numbers : List ℤ) → first ≤ base → Transformed first numbers (now (residuals .entry))
-        → now (plane .exit) ≡ square (whole 8) (chromaRule mode numbers base) stride x y (marksOf a b c d) (now (plane .entry))) ⌝ }
+        → now (plane .exit) ≡ square (whole 8) (chromaRule mode numbers base) stride x y (marksOf marks) (now (plane .entry))) ⌝ }
 {
-    let m = Marks {
-        above: b,
-        left: a,
-        corner: d,
-        right: c,
+    let sides = Sides {
+        above: marks.b,
+        left: marks.a,
+        corner: marks.d,
+        above_right: marks.c,
     };
-    let pred = predict_chroma(plane, stride, y, x, m, mode);
+    let pred = predict_chroma(plane, stride, y, x, sides, mode);
     put_pieces(plane, stride, 2, y, x, &pred, residuals, base);
 }

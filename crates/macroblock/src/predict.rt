@@ -11,31 +11,40 @@ ghost use Rattle.macroblock.specs.inner.Blocks.{Fits, Beside};
 use super::beside::above_of;
 use super::beside::corner_of;
 use super::beside::left_of;
-use super::cut::Marks;
+use super::cut::Sides;
 
 pub(crate) fn predict_4x4(
     plane: &[u8],
     stride: usize,
     row: usize,
     column: usize,
-    m: Marks,
+    sides: Sides,
     mode: u8,
 ) -> [u8; 16]
-    requires { ⌜ Fits 4 stride row column (length (now plane)) × Beside 4 stride row column (m .above) (m .left) (m .corner) (m .right) ⌝ }
-    requires { ⌜ modeAnswer 8 (permittedNxN (m .above) (m .left) (m .corner)) mode ≡ 0 ⌝ }
-    ensures { λ r. ⌜ r ≡ blockOf 4 (pred4x4L mode (m .above) (m .left) (m .corner) (around 4 stride row column (now (plane .entry)) 8 (m .above) (m .left) (m .corner) (m .right))) ⌝ }
+    requires { ⌜ Fits 4 stride row column (length (now plane)) × Beside 4 stride row column (sides .above) (sides .left) (sides .corner) (sides .«above_right») ⌝ }
+    requires { ⌜ modeAnswer 8 (permittedNxN (sides .above) (sides .left) (sides .corner)) mode ≡ 0 ⌝ }
+    ensures { λ r. ⌜ r ≡ blockOf 4 (pred4x4L mode (sides .above) (sides .left) (sides .corner) (around 4 stride row column (now (plane .entry)) 8 (sides .above) (sides .left) (sides .corner) (sides .«above_right»))) ⌝ }
 {
     let mut top = [0u8; 8];
-    above_of(plane, stride, 4, row, column, m.above, m.right, &mut top);
+    above_of(
+        plane,
+        stride,
+        4,
+        row,
+        column,
+        sides.above,
+        sides.above_right,
+        &mut top,
+    );
     let mut left = [0u8; 4];
-    left_of(plane, stride, 4, row, column, m.left, &mut left);
-    let corner = corner_of(plane, stride, 4, row, column, m.corner);
+    left_of(plane, stride, 4, row, column, sides.left, &mut left);
+    let corner = corner_of(plane, stride, 4, row, column, sides.corner);
     let mut pred = [0u8; 16];
     samples::intra_nxn::intra4x4_pred_into(
         mode,
-        m.above,
-        m.left,
-        m.corner,
+        sides.above,
+        sides.left,
+        sides.corner,
         &top,
         &left,
         corner,
@@ -49,24 +58,33 @@ pub(crate) fn predict_8x8(
     stride: usize,
     row: usize,
     column: usize,
-    m: Marks,
+    sides: Sides,
     mode: u8,
 ) -> [u8; 64]
-    requires { ⌜ Fits 8 stride row column (length (now plane)) × Beside 8 stride row column (m .above) (m .left) (m .corner) (m .right) ⌝ }
-    requires { ⌜ modeAnswer 8 (permittedNxN (m .above) (m .left) (m .corner)) mode ≡ 0 ⌝ }
-    ensures { λ r. ⌜ r ≡ blockOf 8 (pred8x8L mode (m .above) (m .left) (m .corner) (around 8 stride row column (now (plane .entry)) 16 (m .above) (m .left) (m .corner) (m .right))) ⌝ }
+    requires { ⌜ Fits 8 stride row column (length (now plane)) × Beside 8 stride row column (sides .above) (sides .left) (sides .corner) (sides .«above_right») ⌝ }
+    requires { ⌜ modeAnswer 8 (permittedNxN (sides .above) (sides .left) (sides .corner)) mode ≡ 0 ⌝ }
+    ensures { λ r. ⌜ r ≡ blockOf 8 (pred8x8L mode (sides .above) (sides .left) (sides .corner) (around 8 stride row column (now (plane .entry)) 16 (sides .above) (sides .left) (sides .corner) (sides .«above_right»))) ⌝ }
 {
     let mut top = [0u8; 16];
-    above_of(plane, stride, 8, row, column, m.above, m.right, &mut top);
+    above_of(
+        plane,
+        stride,
+        8,
+        row,
+        column,
+        sides.above,
+        sides.above_right,
+        &mut top,
+    );
     let mut left = [0u8; 8];
-    left_of(plane, stride, 8, row, column, m.left, &mut left);
-    let corner = corner_of(plane, stride, 8, row, column, m.corner);
+    left_of(plane, stride, 8, row, column, sides.left, &mut left);
+    let corner = corner_of(plane, stride, 8, row, column, sides.corner);
     let mut pred = [0u8; 64];
     samples::intra_nxn::intra8x8_pred_into(
         mode,
-        m.above,
-        m.left,
-        m.corner,
+        sides.above,
+        sides.left,
+        sides.corner,
         &top,
         &left,
         corner,
@@ -80,24 +98,33 @@ pub(crate) fn predict_16x16(
     stride: usize,
     row: usize,
     column: usize,
-    m: Marks,
+    sides: Sides,
     mode: u8,
 ) -> [u8; 256]
-    requires { ⌜ Fits 16 stride row column (length (now plane)) × Beside 16 stride row column (m .above) (m .left) (m .corner) (m .right) ⌝ }
-    requires { ⌜ modeAnswer 3 (permitted16x16 (m .above) (m .left) (m .corner)) mode ≡ 0 ⌝ }
-    ensures { λ r. ⌜ r ≡ blockOf 16 (predL mode (m .above) (m .left) (around 16 stride row column (now (plane .entry)) 16 (m .above) (m .left) (m .corner) (m .right))) ⌝ }
+    requires { ⌜ Fits 16 stride row column (length (now plane)) × Beside 16 stride row column (sides .above) (sides .left) (sides .corner) (sides .«above_right») ⌝ }
+    requires { ⌜ modeAnswer 3 (permitted16x16 (sides .above) (sides .left) (sides .corner)) mode ≡ 0 ⌝ }
+    ensures { λ r. ⌜ r ≡ blockOf 16 (predL mode (sides .above) (sides .left) (around 16 stride row column (now (plane .entry)) 16 (sides .above) (sides .left) (sides .corner) (sides .«above_right»))) ⌝ }
 {
     let mut top = [0u8; 16];
-    above_of(plane, stride, 16, row, column, m.above, m.right, &mut top);
+    above_of(
+        plane,
+        stride,
+        16,
+        row,
+        column,
+        sides.above,
+        sides.above_right,
+        &mut top,
+    );
     let mut left = [0u8; 16];
-    left_of(plane, stride, 16, row, column, m.left, &mut left);
-    let corner = corner_of(plane, stride, 16, row, column, m.corner);
+    left_of(plane, stride, 16, row, column, sides.left, &mut left);
+    let corner = corner_of(plane, stride, 16, row, column, sides.corner);
     let mut pred = [0u8; 256];
     samples::intra_16x16::luma16x16_pred_into(
         mode,
-        m.above,
-        m.left,
-        m.corner,
+        sides.above,
+        sides.left,
+        sides.corner,
         &top,
         &left,
         corner,
@@ -111,24 +138,33 @@ pub(crate) fn predict_chroma(
     stride: usize,
     row: usize,
     column: usize,
-    m: Marks,
+    sides: Sides,
     mode: u8,
 ) -> [u8; 64]
-    requires { ⌜ Fits 8 stride row column (length (now plane)) × Beside 8 stride row column (m .above) (m .left) (m .corner) (m .right) ⌝ }
-    requires { ⌜ modeAnswer 3 (permittedChroma (m .above) (m .left) (m .corner)) mode ≡ 0 ⌝ }
-    ensures { λ r. ⌜ r ≡ blockOf 8 (predC mode (m .above) (m .left) (around 8 stride row column (now (plane .entry)) 8 (m .above) (m .left) (m .corner) (m .right))) ⌝ }
+    requires { ⌜ Fits 8 stride row column (length (now plane)) × Beside 8 stride row column (sides .above) (sides .left) (sides .corner) (sides .«above_right») ⌝ }
+    requires { ⌜ modeAnswer 3 (permittedChroma (sides .above) (sides .left) (sides .corner)) mode ≡ 0 ⌝ }
+    ensures { λ r. ⌜ r ≡ blockOf 8 (predC mode (sides .above) (sides .left) (around 8 stride row column (now (plane .entry)) 8 (sides .above) (sides .left) (sides .corner) (sides .«above_right»))) ⌝ }
 {
     let mut top = [0u8; 8];
-    above_of(plane, stride, 8, row, column, m.above, m.right, &mut top);
+    above_of(
+        plane,
+        stride,
+        8,
+        row,
+        column,
+        sides.above,
+        sides.above_right,
+        &mut top,
+    );
     let mut left = [0u8; 8];
-    left_of(plane, stride, 8, row, column, m.left, &mut left);
-    let corner = corner_of(plane, stride, 8, row, column, m.corner);
+    left_of(plane, stride, 8, row, column, sides.left, &mut left);
+    let corner = corner_of(plane, stride, 8, row, column, sides.corner);
     let mut pred = [0u8; 64];
     samples::intra_chroma::chroma8x8_pred_into(
         mode,
-        m.above,
-        m.left,
-        m.corner,
+        sides.above,
+        sides.left,
+        sides.corner,
         &top,
         &left,
         corner,

@@ -1,42 +1,34 @@
-// What a macroblock call is refused for before its numbers are read: a square or a neighbour outside its plane (2), an unknown record (6) and a mode that
-// is not permitted (7).
+// What a macroblock call is refused for before its numbers are read: a square or a neighbour outside its plane, or lists of other lengths (2), an unknown
+// record (6) and a mode that is not permitted (7).
 ghost use mathlib.Core.Path.{_≡_};
 ghost use mathlib.Core.Bool.{cond, not, _&&_, _||_};
-ghost use mathlib.Core.List.{[], _∷_};
+ghost use mathlib.Core.List.{List};
 ghost use Prim.Native.Nat.{_<_, _≤_};
 ghost use lib.Dec.{eqb, ltb, leb};
-ghost use Rattle.laws.specs.Answer.{_unless_, answer};
-ghost use Rattle.laws.specs.Table.{allBelow};
-ghost use Rattle.samples.specs.Marks.{permittedChroma};
-ghost use Rattle.macroblock.specs.Cut.{marksOf};
-ghost use Rattle.macroblock.specs.Rules.{room, rooms, used, lastMode, modeKnown, permittedFor, permittedAt};
+ghost use lib.IntN.{ℤ};
+ghost use lib.ListN.{length};
+ghost use Rattle.laws.specs.Answer.{answer};
+ghost use Rattle.maps.specs.Neighbours.{marksOf};
+ghost use Rattle.macroblock.specs.Kinds.{recordOf};
+ghost use Rattle.macroblock.specs.Rules.{room, rooms, used, lastMode, permittedFor, known, permitted, earlyRules};
 use super::cut::across;
-use super::cut::marks_of;
+use super::cut::sides_of;
+use maps::neighbours::Marks;
 
 // Whether the square of side q at (x, y), and each marked neighbour, lies in a plane of `len` samples.
-fn has_room(
-    q: usize,
-    len: usize,
-    stride: usize,
-    x: usize,
-    y: usize,
-    a: bool,
-    b: bool,
-    c: bool,
-    d: bool,
-) -> bool
+fn has_room(q: usize, len: usize, stride: usize, x: usize, y: usize, marks: Marks) -> bool
     requires { ⌜ (0 < q) × (q ≤ 16) × (x < 4294967296) × (y < 4294967296) ⌝ }
-    ensures { λ r. ⌜ r ≡ room q len stride x y (marksOf a b c d) ⌝ }
+    ensures { λ r. ⌜ r ≡ room q len stride x y (marksOf marks) ⌝ }
 {
     if stride > 4096 {
         return false;
     }
     let end = x * q + q;
     let square = both(end <= stride, (y * q + (q - 1)) * stride + end <= len);
-    let left = both(square, implies(a, x > 0));
-    let above = both(left, implies(b, y > 0));
-    let right = both(above, implies(c, both(y > 0, end + q <= stride)));
-    both(right, implies(d, both(x > 0, y > 0)))
+    let left = both(square, implies(marks.a, x > 0));
+    let above = both(left, implies(marks.b, y > 0));
+    let right = both(above, implies(marks.c, both(y > 0, end + q <= stride)));
+    both(right, implies(marks.d, both(x > 0, y > 0)))
 }
 
 // The same of the three planes.
@@ -49,17 +41,14 @@ pub(crate) fn has_rooms(
     cb_stride: usize,
     cr_len: usize,
     cr_stride: usize,
-    a: bool,
-    b: bool,
-    c: bool,
-    d: bool,
+    marks: Marks,
 ) -> bool
     requires { ⌜ (x < 4294967296) × (y < 4294967296) ⌝ }
-    ensures { λ r. ⌜ r ≡ rooms x y «luma_len» «luma_stride» «cb_len» «cb_stride» «cr_len» «cr_stride» (marksOf a b c d) ⌝ }
+    ensures { λ r. ⌜ r ≡ rooms x y «luma_len» «luma_stride» «cb_len» «cb_stride» «cr_len» «cr_stride» (marksOf marks) ⌝ }
 {
-    let luma = has_room(16, luma_len, luma_stride, x, y, a, b, c, d);
-    let cb = has_room(8, cb_len, cb_stride, x, y, a, b, c, d);
-    let cr = has_room(8, cr_len, cr_stride, x, y, a, b, c, d);
+    let luma = has_room(16, luma_len, luma_stride, x, y, marks);
+    let cb = has_room(8, cb_len, cb_stride, x, y, marks);
+    let cr = has_room(8, cr_len, cr_stride, x, y, marks);
     both(both(luma, cb), cr)
 }
 
@@ -75,31 +64,39 @@ fn implies(p: bool, q: bool) -> bool
     if p { q } else { true }
 }
 
-// What a record is refused for at these marks but for its numbers, and 0 where it is not.
+// What a record is refused for at these marks before its numbers are read, and 0 where it is not.
 pub(crate) fn record_answer(
+    marks: Marks,
     kind: u8,
-    modes: &[u8; 16],
+    modes: &[u8],
     chroma_mode: u8,
-    a: bool,
-    b: bool,
-    c: bool,
-    d: bool,
+    numbers: &[i32],
 ) -> u32
-    ensures { λ r. ⌜ r ≡ answer (6 unless (leb kind 2 && allBelow 16 (modeKnown kind (now (modes .entry))) && leb «chroma_mode» 3)
-        ∷ 7 unless (allBelow (used kind) (permittedAt kind (now (modes .entry)) (marksOf a b c d)) && permittedChroma b a d «chroma_mode») ∷ []) ⌝ }
+    ensures { λ r. ⌜ r ≡ answer (earlyRules (marksOf marks) (recordOf kind (now (modes .entry)) «chroma_mode» (now (numbers .entry)))) ⌝ }
 {
+    if !has_lists(modes.len(), numbers.len()) {
+        return 2;
+    }
     if !is_known(kind, modes, chroma_mode) {
         return 6;
     }
-    if !is_permitted(kind, modes, chroma_mode, a, b, c, d) {
+    if !is_permitted(marks, kind, modes, chroma_mode) {
         return 7;
     }
     0
 }
 
+// Whether there are as many modes and numbers as a macroblock has.
+fn has_lists(modes: usize, numbers: usize) -> bool
+    ensures { λ r. ⌜ r ≡ (eqb modes 16 && eqb numbers 384) ⌝ }
+{
+    both(modes == 16, numbers == 384)
+}
+
 // Whether the kind, each mode that it uses and the chroma mode are known, and each unused mode is 0.
-fn is_known(kind: u8, modes: &[u8; 16], chroma_mode: u8) -> bool
-    ensures { λ r. ⌜ r ≡ (leb kind 2 && allBelow 16 (modeKnown kind (now (modes .entry))) && leb «chroma_mode» 3) ⌝ }
+fn is_known(kind: u8, modes: &[u8], chroma_mode: u8) -> bool
+    requires { ⌜ length (now modes) ≡ 16 ⌝ }
+    ensures { λ r. ⌜ ((numbers : List ℤ) → r ≡ known (recordOf kind (now (modes .entry)) «chroma_mode» numbers)) ⌝ }
 {
     if kind > 2 {
         return false;
@@ -143,28 +140,21 @@ fn last_mode(kind: u8) -> u8
 }
 
 // Whether each used mode is permitted where it stands.
-fn is_permitted(
-    kind: u8,
-    modes: &[u8; 16],
-    chroma_mode: u8,
-    a: bool,
-    b: bool,
-    c: bool,
-    d: bool,
-) -> bool
-    ensures { λ r. ⌜ r ≡ (allBelow (used kind) (permittedAt kind (now (modes .entry)) (marksOf a b c d)) && permittedChroma b a d «chroma_mode») ⌝ }
+fn is_permitted(marks: Marks, kind: u8, modes: &[u8], chroma_mode: u8) -> bool
+    requires { ⌜ length (now modes) ≡ 16 ⌝ }
+    ensures { λ r. ⌜ ((numbers : List ℤ) → r ≡ permitted (marksOf marks) (recordOf kind (now (modes .entry)) «chroma_mode» numbers)) ⌝ }
 {
     let n = used_modes(kind);
     let m = across(kind);
     let mut k = 0;
     while k < n {
-        let s = marks_of(k, m, a, b, c, d);
+        let s = sides_of(k, m, marks);
         if !permits(kind, modes[k], s.above, s.left, s.corner) {
             return false;
         }
         k += 1;
     }
-    samples::marks::permits_chroma(chroma_mode, b, a, d)
+    samples::marks::permits_chroma(chroma_mode, marks.b, marks.a, marks.d)
 }
 
 fn permits(kind: u8, mode: u8, above: bool, left: bool, corner: bool) -> bool

@@ -5,7 +5,7 @@ use Prim.Native.Nat.{ℕ, _<_}
 use native.Mathlib.Nat.{lt-trans}
 use lib.ListN.{replicate, length-replicate}
 use Rattle.laws.specs.Steps.{upTo}
-use Rattle.order.specs.Order.{Agree, Laws, Done, AllDone, Ready, build, marked, Permitted, raster}
+use Rattle.order.specs.Order.{Agree, Laws, Done, AllDone, build, marked, Permitted, raster}
 use Rattle.order.proofs.Settled.{Settled, settled-start, settled-run, ok-run, untouched, agree-on}
 use Rattle.order.proofs.Raster.{raster-permitted, raster-done, build-raster}
 
@@ -41,7 +41,3 @@ module _ {M I X : Type 0} {at : M → I → X} {ok : M → Type 0} {n : ℕ} {R 
 
   pub ok-steps : (p : M) → ok p → ok (upTo step n p)
   ok-steps p k = subst ok (build-raster step n p) (ok-run L (raster n) p (replicate n 0) k in-turn)
-
-  -- the first undone step is ready
-  pub first-ready : (d : List ℕ) (a : ℕ) → a < n → ((b : ℕ) → b < a → Done d b) → Ready N d a
-  first-ready d a h below b w = below b (L .earlier a b h w)

@@ -1,11 +1,11 @@
 -- The ones of a map. Assumes nothing.
-use mathlib.Core.Path.{_≡_, refl, ap, _∙_}
+use mathlib.Core.Path.{_≡_, refl, ap}
 use mathlib.Core.List.{List, [], _∷_}
 use Prim.Native.Nat.{ℕ, zero, suc, _<_, _≤_, zero-le}
 use native.Mathlib.Nat.{not-suc-le-zero, le-of-suc-le-suc}
 use native.Mathlib.Omega.{arith}
-use lib.ListN.{set, length, length-set, replicate}
-use Rattle.order.specs.Order.{Done, AllDone, marked, isOne, ones}
+use lib.ListN.{set, length, replicate}
+use Rattle.order.specs.Order.{Done, AllDone, isOne, ones}
 
 isOne-le : (b : ℕ) → isOne b ≤ 1
 isOne-le zero = omega arith
@@ -45,7 +45,3 @@ full-done (b ∷ d) e (suc a) h = full-done d (omega (arith, isOne-le b, ones-le
 pub done-full : (d : List ℕ) → AllDone (length d) d → ones d ≡ length d
 done-full [] f = refl
 done-full (b ∷ d) f = omega (arith, ap isOne (f zero (omega arith)), done-full d (λ a h. f (suc a) (omega arith)))
-
-pub length-marked : (o d : List ℕ) → length (marked o d) ≡ length d
-length-marked [] d = refl
-length-marked (a ∷ o) d = length-marked o (set d a 1) ∙ length-set d a 1

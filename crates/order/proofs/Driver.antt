@@ -1,17 +1,23 @@
 -- A run of calls does what the permitted order of its taken calls does. Assumes nothing.
 use mathlib.Core.Path.{_≡_, refl, sym, ap, ap₂, subst, _∙_}
-use mathlib.Core.List.{List, [], _∷_, map}
+use mathlib.Core.List.{List, [], _∷_, _++_, map}
 use Prim.Native.Nat.{ℕ, zero, suc, _<_}
 use native.Mathlib.Omega.{arith}
 use lib.ListN.{length, set, replicate, length-set, length-replicate}
 use Rattle.laws.specs.Answer.{written}
 use Rattle.laws.specs.Steps.{upTo}
-use Rattle.order.specs.Order.{Agree, Laws, Done, AllDone, build, marked, Permitted, raster, ones}
-use Rattle.order.specs.Driver.{Driver, View, Started, Fair, after, play, answers, Carries, Acceptable}
+use Rattle.order.specs.Order.{Agree, Laws, Done, AllDone, Ready, First, build, marked, Permitted, undoneFrom, raster, ones}
+use Rattle.order.specs.Driver.{Driver, View, Started, Fair, after, play, answers, Carries, Spares, Offers}
 use Rattle.order.proofs.Settled.{untouched, ok-run}
 use Rattle.order.proofs.Count.{ones-set, ones-le, ones-none, full-done}
 use Rattle.order.proofs.Raster.{raster-permitted, length-raster}
+use Rattle.order.proofs.Undone.{undone-fills}
 use Rattle.order.proofs.AnyOrder.{done-agrees, any-order}
+
+-- runs joined
+pub play-append : {S C : Type 0} (D : Driver S C) (cs ds : List C) (s : S) → play D (cs ++ ds) s ≡ play D ds (play D cs s)
+play-append D [] ds s = refl
+play-append D (c ∷ cs) ds s = play-append D cs ds (after D c s)
 
 module _ {S C M : Type 0} {D : Driver S C} {U : View S M} {n : ℕ} {addr : C → ℕ} {waits : C → ℕ → Type 0} (F : Fair D U n addr waits) where
   -- the state after a call, by its answer
@@ -63,7 +69,7 @@ module _ {S C M : Type 0} {D : Driver S C} {U : View S M} {n : ℕ} {addr : C �
     pub long : length (U .done s) ≡ n
     pub right : U .count s ≡ ones (U .done s)
 
-  counted-after : (c : C) (s : S) → Counted s → Counted (after D c s)
+  pub counted-after : (c : C) (s : S) → Counted s → Counted (after D c s)
   counted-after c s k = go (D .answer c s) refl
     where
       go : (r : ℕ) → D .answer c s ≡ r → Counted (after D c s)
@@ -128,22 +134,57 @@ module _ {S C M : Type 0} {D : Driver S C} {U : View S M} {n : ℕ} {addr : C �
       pub ok-kept : ok (U .memory (play D cs s))
       ok-kept = subst ok (sym (t .memory)) (ok-run L (t .order) (U .memory s) (replicate n 0) kp allowed)
 
-    -- a permitted order, offered with acceptable records, meets no refusal
-    module _ {offer : ℕ → C} (A : Acceptable D U n addr N ok step offer) where
-      pub no-refusal : (o : List ℕ) (s : S) → ok (U .memory s) → Counted s → Permitted n N o (U .done s) → answers D (map offer o) s ≡ replicate (length o) 0
-      no-refusal [] s k c t = refl
-      no-refusal (a ∷ o) s k c t =
-          ap₂ (λ x xs. x ∷ xs) e
-          (no-refusal o (after D (offer a) s)
-          (subst ok (sym (ap (U .memory) (is (offer a) s e) ∙ A .does a s (t .0))) (L .keeps a (U .memory s) (t .0) k))
-          (counted-after (offer a) s c)
-          (subst (Permitted n N o) (sym (marks-at (offer a) s e ∙ ap (λ b. set (U .done s) b 1) (A .at a (t .0)))) (t .3)))
-        where
-          e : D .answer (offer a) s ≡ 0
-          e = A .answer a s (t .0) k (c .long) (omega (arith, c .right, c .long, ones-le (U .done s))) (t .1) (t .2)
+  -- ---- never stuck: whatever calls came before, a call with all that it needs is taken
+  module _ {ok : M → Type 0} (K : Spares D U n addr ok) where
+    -- what every call keeps
+    pub record Sound (s : S) : Type 0 where
+      pub good : ok (U .memory s)
+      pub right : Counted s
 
-      -- so the raster order meets none
-      pub raster-taken : {s : S} → Started D U n addr s → ok (U .memory s) → answers D (map offer (raster n)) s ≡ replicate n 0
-      raster-taken {s} st k =
-          no-refusal (raster n) s k (counted-start st) (subst (Permitted n N (raster n)) (sym (st .empty)) (raster-permitted n N (L .earlier)))
-          ∙ ap (λ x. replicate x 0) (length-raster n)
+    sound-after : (c : C) (s : S) → Sound s → Sound (after D c s)
+    sound-after c s k = record { good = go (D .answer c s) refl; right = counted-after c s (k .right) }
+      where
+        go : (r : ℕ) → D .answer c s ≡ r → ok (U .memory (after D c s))
+        go zero e = subst (λ u. ok (U .memory u)) (sym (is c s e)) (K .spares c s e (k .good))
+        go (suc r) e = subst (λ u. ok (U .memory u)) (sym (is c s e)) (k .good)
+
+    pub sound-run : (cs : List C) {s : S} → Started D U n addr s → ok (U .memory s) → Sound (play D cs s)
+    sound-run cs {s} st k = go cs s (record { good = k; right = counted-start st })
+      where
+        go : (cs : List C) (s : S) → Sound s → Sound (play D cs s)
+        go [] s k = k
+        go (c ∷ cs) s k = go cs (after D c s) (sound-after c s k)
+
+    taken-now : {N : ℕ → ℕ → Type 0} {a : ℕ} {c : C} (s : S) → Sound s → Offers D U n addr N ok a c → ¬ Done (U .done s) a → Ready N (U .done s) a → D .answer c s ≡ 0
+    taken-now s k o = o .accepted s (k .good) (k .right .long) (omega (arith, k .right .right, k .right .long, ones-le (U .done s)))
+
+    module _ {N : ℕ → ℕ → Type 0} (earlier : (a b : ℕ) → a < n → N a b → b < a) where
+      -- the first undone step is ready
+      pub first-taken : {a : ℕ} {c : C} (s : S) → Sound s → Offers D U n addr N ok a c → First n (U .done s) a → D .answer c s ≡ 0
+      first-taken {a} s k o f = taken-now s k o (f .undone) (λ b w. f .below b (earlier a b (f .inside) w))
+
+      module _ {offer : ℕ → C} (A : (a : ℕ) → a < n → Offers D U n addr N ok a (offer a)) where
+        -- a permitted order meets no refusal
+        abbrev pub Taken : List ℕ → S → Type 0
+        Taken o s = (answers D (map offer o) s ≡ replicate (length o) 0) × (U .done (play D (map offer o) s) ≡ marked o (U .done s))
+
+        pub permitted-taken : (o : List ℕ) (s : S) → Sound s → Permitted n N o (U .done s) → Taken o s
+        permitted-taken [] s k t = (refl, refl)
+        permitted-taken (a ∷ o) s k t =
+            let e = taken-now s k (A a (t .0)) (t .1) (t .2) in
+            let m = marks-at (offer a) s e ∙ ap (λ b. set (U .done s) b 1) (A a (t .0) .at-step) in
+            let more = permitted-taken o (after D (offer a) s) (sound-after (offer a) s k) (subst (Permitted n N o) (sym m) (t .3)) in
+            (ap₂ (λ x xs. x ∷ xs) e (more .0), more .1 ∙ ap (marked o) m)
+
+        -- so what is undone, by address, meets none, and then all is done
+        pub rest-taken : (s : S) → Sound s → Taken (undoneFrom 0 (U .done s)) s
+        rest-taken s k = permitted-taken (undoneFrom 0 (U .done s)) s k (undone-fills n N earlier (U .done s) (k .right .long) .0)
+
+        pub rest-full : (s : S) → Sound s → AllDone n (U .done (play D (map offer (undoneFrom 0 (U .done s))) s))
+        rest-full s k a h = subst (λ d. Done d a) (sym (rest-taken s k .1)) (undone-fills n N earlier (U .done s) (k .right .long) .1 a h)
+
+        -- from the start, that is the raster order
+        pub raster-taken : {s : S} → Started D U n addr s → ok (U .memory s) → answers D (map offer (raster n)) s ≡ replicate n 0
+        raster-taken {s} st k =
+            permitted-taken (raster n) s (sound-run [] st k) (subst (Permitted n N (raster n)) (sym (st .empty)) (raster-permitted n N earlier)) .0
+            ∙ ap (λ x. replicate x 0) (length-raster n)

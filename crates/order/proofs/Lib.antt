@@ -2,6 +2,8 @@
 pub mod AnyOrder
 pub mod Count
 pub mod Driver
+pub mod Orders
 pub mod Parts
 pub mod Raster
 pub mod Settled
+pub mod Undone

@@ -52,9 +52,11 @@ module _ {S C M : Type 0} (D : Driver S C) (U : View S M) (n : ℕ) (addr : C �
     Carries [] s = Unit {0}
     Carries (c ∷ cs) s = (D .answer c s ≡ 0 → Meets c s) × Carries cs (after D c s)
 
-  -- `offer a` is a call that carries an acceptable record for step a: it is taken whenever a is undone and ready
-  pub record Acceptable (N : ℕ → ℕ → Type 0) (ok : M → Type 0) (step : ℕ → M → M) (offer : ℕ → C) : Type 0 where
-    pub at : (a : ℕ) → a < n → addr (offer a) ≡ a
-    pub does : (a : ℕ) (s : S) → a < n → U .memory (D .taken (offer a) s) ≡ step a (U .memory s)
-    pub answer : (a : ℕ) (s : S) → a < n → ok (U .memory s) → length (U .done s) ≡ n → U .count s ≤ n
-        → ¬ Done (U .done s) a → Ready N (U .done s) a → D .answer (offer a) s ≡ 0
+  -- no call that is taken spoils the memory
+  pub record Spares (ok : M → Type 0) : Type 0 where
+    pub spares : (c : C) (s : S) → D .answer c s ≡ 0 → ok (U .memory s) → ok (U .memory (D .taken c s))
+
+  -- a call for step a with all that it needs: it is taken whenever a is undone and ready
+  pub record Offers (N : ℕ → ℕ → Type 0) (ok : M → Type 0) (a : ℕ) (c : C) : Type 0 where
+    pub at-step : addr c ≡ a
+    pub accepted : (s : S) → ok (U .memory s) → length (U .done s) ≡ n → U .count s ≤ n → ¬ Done (U .done s) a → Ready N (U .done s) a → D .answer c s ≡ 0

@@ -2,8 +2,10 @@
 -- `at m i` is what memory m holds at place i. Step a writes the places of its region `R a`, and waits for the steps b with `N a b`.
 -- A map of bytes says which steps are done: 1 is done, any other byte is undone. The order 0, 1, .., n - 1 leaves `upTo step n m`.
 use mathlib.Core.Path.{_≡_}
+use mathlib.Core.Bool.{cond}
 use mathlib.Core.List.{List, [], _∷_, _++_}
 use Prim.Native.Nat.{ℕ, zero, suc, _+_, _<_}
+use lib.Dec.{eqb}
 use lib.ListN.{getD, set}
 
 -- two memories hold the same at every place of S
@@ -45,6 +47,17 @@ marked (a ∷ o) d = marked o (set d a 1)
 abbrev pub Permitted : ℕ → (ℕ → ℕ → Type 0) → List ℕ → List ℕ → Type 0
 Permitted n N [] d = Unit {0}
 Permitted n N (a ∷ o) d = (a < n) × (¬ Done d a) × Ready N d a × Permitted n N o (set d a 1)
+
+-- a is the first of n steps that a map does not show as done
+pub record First (n : ℕ) (d : List ℕ) (a : ℕ) : Type 0 where
+  pub inside : a < n
+  pub undone : ¬ Done d a
+  pub below : (b : ℕ) → b < a → Done d b
+
+-- all that a map does not show as done, the smallest first, where its first byte is that of step k
+abbrev pub undoneFrom : ℕ → List ℕ → List ℕ
+undoneFrom k [] = []
+undoneFrom k (b ∷ d) = cond (eqb b 1) (undoneFrom (suc k) d) (k ∷ undoneFrom (suc k) d)
 
 -- how many bytes of a map are 1
 abbrev pub isOne : ℕ → ℕ

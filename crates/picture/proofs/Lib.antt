@@ -1,9 +1,8 @@
 -- The laws about this crate's definitions: demand 3 is `any-order`.
 pub mod AnyOrder
-pub mod Beside
-pub mod Passed
+pub mod Lending
+pub mod OnePicture
 pub mod Rebuilt
 pub mod Regions
-pub mod Sizes
+pub mod Rules
 pub mod Squares
-pub mod Waiting

@@ -2,17 +2,13 @@
 use mathlib.Core.Path.{_≡_, sym, ap₂, _∙_}
 use Prim.Native.Nat.{ℕ, _+_, _*_, _/_, _%_, _<_}
 use native.Mathlib.Decide.{decLt}
-use native.Mathlib.Nat.{div-add-mod', mod-lt, div-lt-iff-lt-mul}
+use native.Mathlib.Nat.{div-add-mod', mod-lt}
 use lib.Arith.{digits-div, digits-mod, digits-lt}
 use lib.Dec.{T}
+use Rattle.maps.specs.Size.{address}
+use Rattle.maps.proofs.Sizes.{place-of}
 use Rattle.macroblock.specs.Square.{inBlock}
 use Rattle.macroblock.proofs.Places.{block-of, block-row, block-column}
-use Rattle.picture.specs.Size.{address}
-use Rattle.picture.proofs.Sizes.{Stands}
-
--- the place of address a
-pub place-of : (w h a : ℕ) → 0 < w → a < h * w → Stands w h (a % w) (a / w)
-place-of w h a hw ha = record { in-w = mod-lt a hw; in-h = div-lt-iff-lt-mul hw .1 ha }
 
 module _ (k s w : ℕ) where
   -- no index is in two macroblocks

@@ -1,35 +1,28 @@
--- A macroblock of the picture lies in its planes, and each available neighbour with it: so the macroblock call never answers 2. Assumes nothing.
+-- A macroblock of the picture lies in its planes, and each available neighbour with it: so the macroblock call finds room. Assumes nothing.
 use mathlib.Core.Path.{_≡_, ap, _∙_}
 use mathlib.Core.Bool.{Bool, true}
 use mathlib.Core.List.{List}
 use Prim.Native.Nat.{ℕ, suc, _+_, _*_, _-_, _≤_, _<_}
 use native.Mathlib.Nat.{mul-le-mul-right, suc-mul}
 use native.Mathlib.Omega.{arith}
-use lib.Dec.{eqb, ltb}
-use lib.ListN.{getD}
+use lib.Dec.{ltb}
 use borrow.Author.Tests.{ltb-true, le-leb}
 use Rattle.laws.specs.Answer.{answer}
 use Rattle.laws.proofs.Answers.{holds}
-use Rattle.laws.proofs.Tests.{and-left, and-both, and-of, implied-of}
-use Rattle.maps.specs.Neighbours.{Side}
-use Rattle.macroblock.specs.Cut.{marksOf}
+use Rattle.laws.proofs.Tests.{and-both, and-of, implied-of}
+use Rattle.maps.specs.Neighbours.{Side, inPicture, available}
 use Rattle.maps.specs.Neighbours.Side.{A, B, C, D}
+use Rattle.maps.specs.Size.{Stands}
+use Rattle.maps.proofs.Beside.{available-inside}
 use Rattle.macroblock.specs.Rules.{room, rooms, rebuildAnswer}
 use Rattle.macroblock.specs.Local.{Local, Promise}
 use Rattle.macroblock.proofs.Promised.{promised}
-use Rattle.picture.specs.Size.{Plane, side, address}
-use Rattle.picture.specs.Size.Plane.{luma, cb, cr}
-use Rattle.picture.specs.Neighbours.{inPicture, beside, available}
+use Rattle.picture.specs.Planes.{Plane, side}
+use Rattle.picture.specs.Planes.Plane.{luma, cb, cr}
 use Rattle.picture.specs.Rebuild.{Call, marks, recordRules, squareIn}
-use Rattle.picture.specs.inner.Facts.{Marked}
-use Rattle.picture.specs.declared.neighbours.Marks.{Marks}
-use Rattle.picture.proofs.Sizes.{Fits, Stands}
+use Rattle.picture.proofs.Lending.{PlaneRoom}
 
--- an available neighbour lies in the picture
-pub in-picture : (w : ℕ) (slices : List ℕ) (x y : ℕ) (k : Side) → available w slices x y k ≡ true → inPicture w x y k ≡ true
-in-picture w slices x y k t = and-left (inPicture w x y k) (eqb (getD slices (beside w x y k) 0) (getD slices (address w x y) 0)) t
-
-module _ (q w h s n x y : ℕ) (q-pos : 0 < q) (fits : Fits q w h s n) (place : Stands w h x y) where
+module _ (q w h s n x y : ℕ) (q-pos : 0 < q) (fits : PlaneRoom q w h s n) (place : Stands w h x y) where
   below : suc y * q ≤ h * q
   below = mul-le-mul-right q (place .in-h)
 
@@ -58,20 +51,10 @@ module _ (q w h s n x y : ℕ) (q-pos : 0 < q) (fits : Fits q w h s n) (place : 
       m = available w slices x y
 
       there : (k : Side) → m k ≡ true → inPicture w x y k ≡ true
-      there k t = in-picture w slices x y k t
+      there k t = available-inside w x y slices k t
 
       right : x + 1 < w → x * q + q + q ≤ s
       right l = let u : suc (suc x) * q ≤ w * q = mul-le-mul-right q (omega arith) in omega (arith, fits .wide, suc-mul (suc x) q, suc-mul x q)
-
--- marks that are right are the picture's
-pub marks-are : (m : Marks) (w : ℕ) (slices : List ℕ) (x y : ℕ) → Marked m w slices x y → marksOf (m .a) (m .b) (m .c) (m .d) ≡ available w slices x y
-marks-are m w slices x y g = λ i k. each k i
-  where
-    each : (k : Side) → marksOf (m .a) (m .b) (m .c) (m .d) k ≡ available w slices x y k
-    each A = g .a-is
-    each B = g .b-is
-    each C = g .c-is
-    each D = g .d-is
 
 pub side-pos : (p : Plane) → 0 < side p
 side-pos luma = omega arith
@@ -79,7 +62,7 @@ side-pos cb = omega arith
 side-pos cr = omega arith
 
 -- a call whose macroblock lies in the picture, over planes of so many bytes each
-module _ (c : Call) (bytes : Plane → ℕ) (fits : (p : Plane) → Fits (side p) (c .width) (c .height) (c .stride p) (bytes p)) (place : Stands (c .width) (c .height) (c .x) (c .y)) where
+module _ (c : Call) (bytes : Plane → ℕ) (fits : (p : Plane) → PlaneRoom (side p) (c .width) (c .height) (c .stride p) (bytes p)) (place : Stands (c .width) (c .height) (c .x) (c .y)) where
   abbrev pub roomsOf : (Side → Bool) → Bool
   roomsOf m = rooms (c .x) (c .y) (bytes luma) (c .stride luma) (bytes cb) (c .stride cb) (bytes cr) (c .stride cr) m
 
@@ -89,8 +72,9 @@ module _ (c : Call) (bytes : Plane → ℕ) (fits : (p : Plane) → Fits (side p
       room-in : (p : Plane) → room (side p) (bytes p) (c .stride p) (c .x) (c .y) (marks c) ≡ true
       room-in p = square-room (side p) (c .width) (c .height) (c .stride p) (bytes p) (c .x) (c .y) (side-pos p) (fits p) place (c .slices)
 
-  -- the macroblock call's answer is that of this call's rules 6, 7 and 8
+  -- the macroblock call's answer is that of the rules that speak of the record
   pub by-macroblock : (m : Side → Bool) {r : ℕ} → m ≡ marks c → r ≡ rebuildAnswer (roomsOf m) m (c .mb) → r ≡ answer (recordRules c)
+  unfolding recordRules
   by-macroblock m {r} e f = f ∙ ap (λ n. rebuildAnswer (roomsOf n) n (c .mb)) e ∙ holds 2 (recordRules c) rooms-hold
 
   -- and its promise holds in each plane

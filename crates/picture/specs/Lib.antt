@@ -1,8 +1,5 @@
--- What the picture's calls promise: sizes and neighbours, the progress record, the table of refusals, and demand 3.
+-- What the picture's call promises: the planes, the table of refusals, and demand 3.
 pub mod AnyOrder
-pub mod Neighbours
-pub mod Progress
+pub mod Planes
 pub mod Rebuild
 pub mod Run
-pub mod Size
-pub mod inner

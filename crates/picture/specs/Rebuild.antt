@@ -1,21 +1,20 @@
 -- The macroblock call: what it is given, what it is lent, its answer, and what an accepted one leaves.
 use mathlib.Core.Path.{_≡_}
-use mathlib.Core.Bool.{Bool, not, _&&_, _||_}
+use mathlib.Core.Bool.{Bool}
 use mathlib.Core.List.{List, [], _∷_}
 use Prim.Native.Nat.{ℕ}
-use lib.Dec.{eqb}
-use lib.ListN.{getD, length, set, take}
+use lib.ListN.{length, set}
 use Rattle.laws.specs.Answer.{Check, _unless_, answer, written}
-use Rattle.maps.specs.Neighbours.{Side}
-use Rattle.maps.specs.Neighbours.Side.{A, B, C, D}
+use Rattle.maps.specs.Done.{undoneRule, readyRule}
+use Rattle.maps.specs.Neighbours.{Side, available}
+use Rattle.maps.specs.Progress.{acceptedOf}
+use Rattle.maps.specs.Size.{total, address, sizeRule, placeRule}
+use Rattle.maps.specs.declared.progress.Progress.{Progress}
 use Rattle.macroblock.specs.Kinds.{lumaSquare, cbSquare, crSquare}
-use Rattle.macroblock.specs.Rules.{known, permitted, numbersGood}
+use Rattle.macroblock.specs.Rules.{listRule, knownRule, permittedRule, numbersRule}
 use Rattle.macroblock.specs.declared.Record.{Record}
-use Rattle.picture.specs.Size.{Plane, three, total, address, sizeOk, roomOk, placeOk}
-use Rattle.picture.specs.Size.Plane.{luma, cb, cr}
-use Rattle.picture.specs.Neighbours.{beside, available}
-use Rattle.picture.specs.Progress.{acceptedOf}
-use Rattle.picture.specs.declared.Progress.{Progress}
+use Rattle.picture.specs.Planes.{Plane, three, roomOk}
+use Rattle.picture.specs.Planes.Plane.{luma, cb, cr}
 
 -- what a call is given: the picture's size, a place, the strides, the slice map and a record
 pub record Call : Type 0 where
@@ -47,44 +46,50 @@ here c = address (c .width) (c .x) (c .y)
 abbrev pub marks : Call → Side → Bool
 marks c = available (c .width) (c .slices) (c .x) (c .y)
 
--- ---- the rules
--- 4: 1 in the done map means done, any other value undone
-abbrev pub isDone : List ℕ → ℕ → Bool
-isDone done a = eqb (getD done a 0) 1
-
--- 5: each neighbour that the call waits for is done. It waits for those that are available
+-- the neighbours that it waits for: those that are available
 abbrev pub waitsFor : Call → Side → Bool
 waitsFor c = marks c
 
-abbrev pub settled : (w x y : ℕ) → (Side → Bool) → List ℕ → Side → Bool
-settled w x y waited done k = not (waited k) || isDone done (beside w x y k)
+-- ---- the table of refusals
+-- 2: what is lent is as large as the size and the strides ask
+abbrev pub lentRule : Call → Lent → Check
+lentRule c s = 2 unless roomOk (c .width) (c .height) (c .stride) (λ p. length (s .planes p)) (length (s .done)) (length (c .slices)) (s .progress .count)
 
-unfoldable pub allSettled : (w x y : ℕ) → (Side → Bool) → List ℕ → Bool
-allSettled w x y waited done = settled w x y waited done A && settled w x y waited done B && settled w x y waited done C && settled w x y waited done D
-
--- 6, 7 and 8: the record is acceptable at its place where these hold
-abbrev pub recordRules : Call → List Check
-recordRules c = 6 unless known (c .mb) ∷ 7 unless permitted (marks c) (c .mb) ∷ 8 unless numbersGood (c .mb) ∷ []
-
-abbrev pub Acceptable : Call → Type 0
-Acceptable c = answer (recordRules c) ≡ 0
-
--- the table of refusals
 unfoldable pub rules : Call → Lent → List Check
 rules c s =
-    1 unless sizeOk (c .width) (c .height)
-    ∷ 2 unless roomOk (c .width) (c .height) (c .stride) (λ p. length (s .planes p)) (length (s .done)) (length (c .slices)) (s .progress .count)
-    ∷ 3 unless placeOk (c .width) (c .height) (c .x) (c .y)
-    ∷ 4 unless not (isDone (s .done) (here c))
-    ∷ 5 unless allSettled (c .width) (c .x) (c .y) (waitsFor c) (s .done)
-    ∷ recordRules c
+    sizeRule (c .width) (c .height)
+    ∷ lentRule c s
+    ∷ listRule (c .mb)
+    ∷ placeRule (c .width) (c .height) (c .x) (c .y)
+    ∷ undoneRule (s .done) (here c)
+    ∷ readyRule (c .width) (c .x) (c .y) (waitsFor c) (s .done)
+    ∷ knownRule (c .mb)
+    ∷ permittedRule (marks c) (c .mb)
+    ∷ numbersRule (c .mb)
+    ∷ []
 
 abbrev pub answerTo : Call → Lent → ℕ
 answerTo c s = answer (rules c s)
 
--- what the checks before the fifth answer
+-- the rules before the neighbours are looked at
+unfoldable pub earlierRules : Call → Lent → List Check
+earlierRules c s =
+    sizeRule (c .width) (c .height)
+    ∷ lentRule c s
+    ∷ listRule (c .mb)
+    ∷ placeRule (c .width) (c .height) (c .x) (c .y)
+    ∷ undoneRule (s .done) (here c)
+    ∷ []
+
 abbrev pub earlier : Call → Lent → ℕ
-earlier c s = answer (take 4 (rules c s))
+earlier c s = answer (earlierRules c s)
+
+-- a record is acceptable at its place where the rules that speak of it hold
+unfoldable pub recordRules : Call → List Check
+recordRules c = listRule (c .mb) ∷ knownRule (c .mb) ∷ permittedRule (marks c) (c .mb) ∷ numbersRule (c .mb) ∷ []
+
+abbrev pub Acceptable : Call → Type 0
+Acceptable c = answer (recordRules c) ≡ 0
 
 -- ---- what a call leaves
 -- a plane with the macroblock rebuilt in it

@@ -1,102 +1,24 @@
 // The picture: macroblocks offered in any order, over planes, maps and a progress record that are lent.
 ghost use mathlib.Core.Path.{_≡_};
-ghost use lib.ListN.{length, replicate};
-ghost use Rattle.laws.specs.Answer.{written};
-ghost use Rattle.macroblock.specs.declared.Record.{Record};
-ghost use Rattle.picture.specs.Progress.{acceptedOf, begun, startAnswer};
+ghost use Prim.Native.Nat.{ℕ};
+ghost use Rattle.macroblock.specs.Kinds.{recordOf};
+ghost use Rattle.picture.specs.AnyOrder.{AnyOrder};
 ghost use Rattle.picture.specs.Rebuild.{call, lent, earlier, Rebuilds};
-use macroblock::Record;
+ghost use Rattle.picture.specs.Run.{Picture};
+use maps::done::is_done;
+use maps::done::ready;
+use maps::neighbours::marks_of;
+use maps::progress::Outcome;
+use maps::progress::Progress;
+use maps::progress::accepted;
+use maps::size::place_ok;
+use maps::size::size_ok;
+use planes::both;
+use planes::room_ok;
 
-mod neighbours; // who is a neighbour
-mod size; // sizes and lent memory
+mod planes; // the memory that is lent
 
-// The number of accepted macroblocks, and the last one's address.
-pub struct Progress {
-    pub count: u32,
-    pub last: u32,
-}
-
-// What a call answers, with the progress record after it.
-pub struct Started {
-    pub answer: u32,
-    pub progress: Progress,
-}
-
-// The record after macroblock `address` of `total` is accepted.
-pub fn accepted(p: Progress, address: u32, total: u32) -> Progress
-    ensures { λ r. ⌜ r ≡ acceptedOf p address total ⌝ }
-{
-    let count = p.count;
-    if count < total {
-        Progress {
-            count: count + 1,
-            last: address,
-        }
-    } else {
-        Progress {
-            count: total,
-            last: address,
-        }
-    }
-}
-
-// The same in place.
-pub fn accept(progress: &mut Progress, address: u32, total: u32)
-    ensures { λ _. ⌜ now (progress .exit) ≡ acceptedOf (now (progress .entry)) address total ⌝ }
-{
-    *progress = accepted(*progress, address, total);
-}
-
-// Writes 0 over the done map.
-fn clear(done: &mut [u8])
-    ensures { λ _. ⌜ now (done .exit) ≡ replicate (length (now (done .entry))) 0 ⌝ }
-{
-    let mut i = 0;
-    while i < done.len() {
-        done[i] = 0;
-        i += 1;
-    }
-}
-
-// Starts a picture, with the progress record by value.
-pub fn start_core(w: u32, h: u32, done: &mut [u8], progress: Progress) -> Started
-    ensures { λ r. ⌜ (r .answer ≡ startAnswer w h (length (now (done .entry))))
-        × (r .progress ≡ written (r .answer) progress begun)
-        × (now (done .exit) ≡ written (r .answer) (now (done .entry)) (replicate (length (now (done .entry))) 0)) ⌝ }
-{
-    let columns = w as usize;
-    let rows = h as usize;
-    if !size::size_ok(columns, rows) {
-        return Started {
-            answer: 1,
-            progress,
-        };
-    }
-    if done.len() != rows * columns {
-        return Started {
-            answer: 2,
-            progress,
-        };
-    }
-    clear(done);
-    Started {
-        answer: 0,
-        progress: Progress { count: 0, last: 0 },
-    }
-}
-
-// Starts a picture.
-pub fn start(w: u32, h: u32, done: &mut [u8], progress: &mut Progress) -> u32
-    ensures { λ r. ⌜ (r ≡ startAnswer w h (length (now (done .entry))))
-        × (now (progress .exit) ≡ written r (now (progress .entry)) begun)
-        × (now (done .exit) ≡ written r (now (done .entry)) (replicate (length (now (done .entry))) 0)) ⌝ }
-{
-    let s = start_core(w, h, done, *progress);
-    *progress = s.progress;
-    s.answer
-}
-
-// The refusals 1 to 4 of a macroblock call, whatever its record, or 0.
+// The refusals of a macroblock call before its neighbours are looked at, whatever its kind and its chroma mode, or 0.
 fn refuse(
     w: u32,
     h: u32,
@@ -111,16 +33,19 @@ fn refuse(
     done: &[u8],
     slices: &[u16],
     progress: Progress,
+    modes: &[u8],
+    numbers: &[i32],
 ) -> u32
-    ensures { λ r. ⌜ ((m : Record) → r ≡ earlier (call w h x y «luma_stride» «cb_stride» «cr_stride» (now (slices .entry)) m)
+    ensures { λ r. ⌜ ((kind chroma : ℕ) → r ≡ earlier
+        (call w h x y «luma_stride» «cb_stride» «cr_stride» (now (slices .entry)) (recordOf kind (now (modes .entry)) chroma (now (numbers .entry))))
         (lent (now (luma .entry)) (now (cb .entry)) (now (cr .entry)) (now (done .entry)) progress)) ⌝ }
 {
-    let columns = w as usize;
-    let rows = h as usize;
-    if !size::size_ok(columns, rows) {
+    if !size_ok(w, h) {
         return 1;
     }
-    let room = size::room_ok(
+    let columns = w as usize;
+    let rows = h as usize;
+    let room = room_ok(
         columns,
         rows,
         luma.len(),
@@ -136,19 +61,20 @@ fn refuse(
     if !room {
         return 2;
     }
-    let column = x as usize;
-    let row = y as usize;
-    if !size::place_ok(columns, rows, column, row) {
+    if !both(modes.len() == 16, numbers.len() == 384) {
+        return 2;
+    }
+    if !place_ok(w, h, x, y) {
         return 3;
     }
-    let here = row * columns + column;
-    if done[here] == 1 {
+    let here = (y as usize) * columns + (x as usize);
+    if is_done(done, here) {
         return 4;
     }
     0
 }
 
-// Rebuilds macroblock (x, y) of a picture, with the progress record by value.
+// Rebuilds macroblock (x, y) of a picture from a record's parts, with the progress record by value.
 pub fn rebuild_core(
     w: u32,
     h: u32,
@@ -163,46 +89,75 @@ pub fn rebuild_core(
     done: &mut [u8],
     slices: &[u16],
     progress: Progress,
-    record: Record,
-) -> Started
-    ensures { λ r. ⌜ Rebuilds (call w h x y «luma_stride» «cb_stride» «cr_stride» (now (slices .entry)) «record»)
+    kind: u8,
+    modes: &[u8],
+    chroma_mode: u8,
+    numbers: &[i32],
+) -> Outcome
+    ensures { λ r. ⌜ Rebuilds
+        (call w h x y «luma_stride» «cb_stride» «cr_stride» (now (slices .entry)) (recordOf kind (now (modes .entry)) «chroma_mode» (now (numbers .entry))))
         (lent (now (luma .entry)) (now (cb .entry)) (now (cr .entry)) (now (done .entry)) progress)
         (r .answer) (lent (now (luma .exit)) (now (cb .exit)) (now (cr .exit)) (now (done .exit)) (r .progress)) ⌝ }
 {
     let ls = luma_stride;
     let bs = cb_stride;
     let rs = cr_stride;
-    let early = refuse(w, h, x, y, luma, ls, cb, bs, cr, rs, done, slices, progress);
-    if early != 0 {
-        return Started {
-            answer: early,
-            progress,
-        };
+    let answer = refuse(
+        w,
+        h,
+        x,
+        y,
+        luma,
+        ls,
+        cb,
+        bs,
+        cr,
+        rs,
+        done,
+        slices,
+        progress,
+        modes,
+        numbers,
+    );
+    if answer != 0 {
+        return Outcome { answer, progress };
     }
-    let columns = w as usize;
-    let column = x as usize;
-    let row = y as usize;
-    let m = neighbours::marks_of(slices, columns, column, row);
-    if !neighbours::ready(done, slices, columns, column, row, m) {
-        return Started {
+    let marks = marks_of(slices, w, h, x, y);
+    if !ready(done, w, x, y, marks) {
+        return Outcome {
             answer: 5,
             progress,
         };
     }
-    let answer = macroblock::rebuild(x, y, luma, ls, cb, bs, cr, rs, m.a, m.b, m.c, m.d, record);
+    let answer = macroblock::rebuild(
+        x,
+        y,
+        luma,
+        ls,
+        cb,
+        bs,
+        cr,
+        rs,
+        marks,
+        kind,
+        modes,
+        chroma_mode,
+        numbers,
+    );
     if answer != 0 {
-        return Started { answer, progress };
+        return Outcome { answer, progress };
     }
-    let here = row * columns + column;
-    done[here] = 1;
-    let after = accepted(progress, y * w + x, h * w);
-    Started {
+    let here = y * w + x;
+    let place = here as usize;
+    done[place] = 1;
+    let after = accepted(progress, here, h * w);
+    Outcome {
         answer: 0,
         progress: after,
     }
 }
 
-// Rebuilds macroblock (x, y) of a picture.
+// Rebuilds macroblock (x, y) of a picture: in any order that it accepts, the picture is the right one. The record is stored only where the answer is 0.
 pub fn rebuild(
     w: u32,
     h: u32,
@@ -217,11 +172,16 @@ pub fn rebuild(
     done: &mut [u8],
     slices: &[u16],
     progress: &mut Progress,
-    record: Record,
+    kind: u8,
+    modes: &[u8],
+    chroma_mode: u8,
+    numbers: &[i32],
 ) -> u32
-    ensures { λ r. ⌜ Rebuilds (call w h x y «luma_stride» «cb_stride» «cr_stride» (now (slices .entry)) «record»)
+    ensures { λ r. ⌜ Rebuilds
+        (call w h x y «luma_stride» «cb_stride» «cr_stride» (now (slices .entry)) (recordOf kind (now (modes .entry)) «chroma_mode» (now (numbers .entry))))
         (lent (now (luma .entry)) (now (cb .entry)) (now (cr .entry)) (now (done .entry)) (now (progress .entry)))
-        r (lent (now (luma .exit)) (now (cb .exit)) (now (cr .exit)) (now (done .exit)) (now (progress .exit))) ⌝ }
+        r (lent (now (luma .exit)) (now (cb .exit)) (now (cr .exit)) (now (done .exit)) (now (progress .exit)))
+        × ((g : Picture) → AnyOrder g) ⌝ }
 {
     let s = rebuild_core(
         w,
@@ -237,8 +197,13 @@ pub fn rebuild(
         done,
         slices,
         *progress,
-        record,
+        kind,
+        modes,
+        chroma_mode,
+        numbers,
     );
-    *progress = s.progress;
+    if s.answer == 0 {
+        *progress = s.progress;
+    }
     s.answer
 }

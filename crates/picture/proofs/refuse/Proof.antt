@@ -1,53 +1,67 @@
--- `picture::refuse` meets its contract: rules 1 to 4 are tested in the order of their numbers, and `okK` says that rule K holds where the next one is tested.
+-- `picture::refuse` meets its contract: the rules are tested in the order of the table, and `ok-X` says that rule X holds where the next one is tested.
 -- Assumes nothing.
 use mathlib.Core.Path.{_≡_, sym, _∙_}
 use mathlib.Core.Bool.{true}
-use Prim.Native.Nat.{_<_}
+use Prim.Native.Nat.{_<_, _≤_}
 use native.Mathlib.Omega.{arith}
-use lib.Arith.{digits-lt}
-use lib.ListN.{length}
-use borrow.Author.Tests.{not-true, not-false, eq-eqb, ne-eqb}
-use Rattle.picture.specs.Size.{address, sizeOk, roomOk, placeOk}
-use Rattle.picture.specs.Rebuild.{rules}
-use Rattle.picture.proofs.Sizes.{size-is, room-is, place-is}
+use borrow.Author.Tests.{not-true, not-false}
+use Rattle.maps.specs.Size.{total, address, sizeOk, placeOk}
+use Rattle.maps.proofs.Sizes.{size-is, total-most, place-is, address-inside}
+use Rattle.macroblock.specs.Rules.{listsGood}
+use Rattle.picture.specs.Planes.{roomOk}
+use Rattle.picture.specs.Rebuild.{earlierRules}
 use borrow.Author.Needs.{needs}
 use Rattle.picture.proofs.refuse.Statement.{statement}
 use Rattle.picture.proofs.refuse.Tie as tie
 
-ok1 : (c : tie.Else1) → let a = c .before .before .before .before .before .before .before .args in sizeOk (a .w) (a .h) ≡ true
-ok1 c = sym (c .before .size-ok .ensures) ∙ not-false _ (c .if1 .left)
+-- the way back from where the size is good
+abbrev start : tie.Else1 → tie.Start
+start c = c .before .before .before .before .before .before .before .before
 
-ok2 : (c : tie.Else2) → c .before .room-ok .result ≡ true
-ok2 c = not-false (c .before .room-ok .result) (c .if2 .left)
+abbrev sized : tie.Else4 → tie.Else1
+sized c = c .before .before .before .before .before .before
 
-ok3 : (c : tie.Else3) → let a = c .before .before .before .before .before .before .before .before .before .before .before .args in placeOk (a .w) (a .h) (a .x) (a .y) ≡ true
-ok3 c = sym (c .before .place-ok .ensures) ∙ not-false _ (c .if3 .left)
+ok-size : (c : tie.Else1) → sizeOk (start c .args .w) (start c .args .h) ≡ true
+ok-size c = sym (c .before .size-ok .ensures) ∙ not-false _ (c .if1 .left)
 
--- the address lies in the done map
-within : (c : tie.Else3) → let a = c .before .before .before .before .before .before .before .before .before .before .before .args in address (a .w) (a .x) (a .y) < length (a .done .now)
+ok-room : (c : tie.Else2) → c .before .room-ok .result ≡ true
+ok-room c = not-false (c .before .room-ok .result) (c .if2 .left)
+
+ok-lists : (c : tie.Else3) → c .before .both .result ≡ true
+ok-lists c = not-false (c .before .both .result) (c .if3 .left)
+
+ok-place : (c : tie.Else4) → let a = start (sized c) .args in placeOk (a .w) (a .h) (a .x) (a .y) ≡ true
+ok-place c = sym (c .before .place-ok .ensures) ∙ not-false _ (c .if4 .left)
+
+-- the address is one of at most 8160
+within : (c : tie.Else4) → let a = start (sized c) .args in (address (a .w) (a .x) (a .y) < total (a .w) (a .h)) × (total (a .w) (a .h) ≤ 8160)
 within c =
-    let d = c .before .before in
-    let a = d .before .before .before .before .before .before .before .before .before .args in
-    let g = place-is (a .w) (a .h) (a .x) (a .y) (ok3 c) in
-    let r = room-is (a .w) (a .h) _ _ (length (a .done .now)) (length (a .slices .now)) _ (sym (d .before .room-ok .ensures) ∙ ok2 d) in
-    omega (arith, digits-lt (g .in-h) (g .in-w))
+    let a = start (sized c) .args in
+    (address-inside (a .w) (a .h) (a .x) (a .y) (place-is (a .w) (a .h) (a .x) (a .y) (ok-place c)), total-most (a .w) (a .h) (size-is (a .w) (a .h) (ok-size (sized c))))
 
 returns : tie.Need-returns
-unfolding rules roomOk
-returns c m = rw (sym (c .before .size-ok .ensures) ∙ not-true _ (c .if1 .taken))
+unfolding earlierRules
+returns c kind chroma = rw (sym (c .before .size-ok .ensures) ∙ not-true _ (c .if1 .taken))
 
 room-ok-requires : tie.Need-room-ok-requires
-room-ok-requires c κs = size-is _ _ (ok1 c)
+room-ok-requires c κs = size-is _ _ (ok-size c)
 
 returns-2 : tie.Need-returns-2
-unfolding rules roomOk
-returns-2 c m = rw (ok1 (c .before .before), sym (c .before .room-ok .ensures) ∙ not-true _ (c .if2 .taken))
+unfolding earlierRules roomOk
+returns-2 c kind chroma = rw (ok-size (c .before .before), sym (c .before .room-ok .ensures) ∙ not-true _ (c .if2 .taken))
 
 returns-3 : tie.Need-returns-3
-unfolding rules roomOk
-returns-3 c m =
+unfolding earlierRules roomOk listsGood
+returns-3 c kind chroma =
     let d = c .before .before in
-    rw (ok1 (d .before .before), sym (d .before .room-ok .ensures) ∙ ok2 d, sym (c .before .place-ok .ensures) ∙ not-true _ (c .if3 .taken))
+    rw (ok-size (d .before .before), sym (d .before .room-ok .ensures) ∙ ok-room d, sym (c .before .both .ensures) ∙ not-true _ (c .if3 .taken))
+
+returns-4 : tie.Need-returns-4
+unfolding earlierRules roomOk listsGood
+returns-4 c kind chroma =
+    let e = c .before .before in
+    let d = e .before .before in
+    rw (ok-size (d .before .before), sym (d .before .room-ok .ensures) ∙ ok-room d, sym (e .before .both .ensures) ∙ ok-lists e, sym (c .before .place-ok .ensures) ∙ not-true _ (c .if4 .taken))
 
 mul-here : tie.Need-mul-here
 mul-here c = omega (arith, within c)
@@ -55,22 +69,21 @@ mul-here c = omega (arith, within c)
 add-here : tie.Need-add-here
 add-here c = omega (arith, within c)
 
-shared-slice-read-if4 : tie.Need-shared-slice-read-if4
-shared-slice-read-if4 c = within (c .before)
-
-returns-4 : tie.Need-returns-4
-unfolding rules roomOk
-returns-4 c m =
-    let e = c .before .before in
-    let d = e .before .before in
-    rw (ok1 (d .before .before), sym (d .before .room-ok .ensures) ∙ ok2 d, ok3 e, eq-eqb _ _ (c .if4 .taken))
-
 returns-5 : tie.Need-returns-5
-unfolding rules roomOk
-returns-5 c m =
-    let e = c .before .before in
+unfolding earlierRules roomOk listsGood
+returns-5 c kind chroma =
+    let f = c .before .before in
+    let e = f .before .before in
     let d = e .before .before in
-    rw (ok1 (d .before .before), sym (d .before .room-ok .ensures) ∙ ok2 d, ok3 e, ne-eqb _ _ (c .if4 .left))
+    rw (ok-size (d .before .before), sym (d .before .room-ok .ensures) ∙ ok-room d, sym (e .before .both .ensures) ∙ ok-lists e, ok-place f, sym (c .before .is-done .ensures) ∙ c .if5 .taken)
+
+returns-6 : tie.Need-returns-6
+unfolding earlierRules roomOk listsGood
+returns-6 c kind chroma =
+    let f = c .before .before in
+    let e = f .before .before in
+    let d = e .before .before in
+    rw (ok-size (d .before .before), sym (d .before .room-ok .ensures) ∙ ok-room d, sym (e .before .both .ensures) ∙ ok-lists e, ok-place f, sym (c .before .is-done .ensures) ∙ c .if5 .left)
 
 pub refuse-spec : {M : Type 1} → statement M
 refuse-spec =
@@ -82,8 +95,10 @@ refuse-spec =
     returns-2
     (λ c κs. search needs)
     returns-3
+    (λ c κs. search needs)
+    returns-4
     mul-here
     add-here
-    shared-slice-read-if4
-    returns-4
-    returns-5)
+    (λ c κs. search needs)
+    returns-5
+    returns-6)

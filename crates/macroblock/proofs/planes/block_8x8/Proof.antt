@@ -6,7 +6,8 @@ use native.Mathlib.Omega.{arith}
 use lib.ListN.{getD, length}
 use Rattle.samples.specs.IntraNxN.{pred8x8L}
 use Rattle.samples.specs.Marks.{permittedNxN}
-use Rattle.macroblock.specs.Cut.{marksOf, eight}
+use Rattle.maps.specs.Neighbours.{marksOf}
+use Rattle.macroblock.specs.Cut.{eight}
 use Rattle.laws.specs.Range.{at}
 use Rattle.macroblock.specs.Kinds.{lumaRule}
 use Rattle.macroblock.specs.Square.{around}
@@ -19,68 +20,68 @@ use Rattle.macroblock.proofs.planes.block_8x8.Tie as tie
 top : (u : tie.Start) → let a = u .args in a .y * 16 + 15 ≤ length (a .plane .now)
 top u = let a = u .args in top-in 16 (a .stride) (a .x) (a .y) (length (a .plane .now)) (u .pre .0 .0)
 
-block : (c : tie.After-marks-of) → let u = c .before .before .before .before in let a = u .args in let m = c .marks-of .result in
-    AtBlock 8 2 (a .stride) (a .x) (a .y) (length (a .plane .now)) (c .before .scan-x .result) (c .before .before .scan-y .result) (m .above) (m .left) (m .corner) (m .right)
+block : (c : tie.After-sides-of) → let u = c .before .before .before .before .before in let a = u .args in let m = c .sides-of .result in
+    AtBlock 8 2 (a .stride) (a .x) (a .y) (length (a .plane .now)) (c .before .scan-x .result) (c .before .before .scan-y .result) (m .above) (m .left) (m .corner) (m .«above_right»)
 block c =
-    let u = c .before .before .before .before in
+    let u = c .before .before .before .before .before in
     let a = u .args in
-    at-block 8 2 (a .stride) (a .x) (a .y) (length (a .plane .now)) (a .k) _ _ (marksOf (a .a) (a .b) (a .c) (a .d)) scan-2 (omega arith) (u .pre .0 .2) (u .pre .0 .0) (u .pre .0 .1)
-    (c .marks-of .ensures) (c .before .scan-x .ensures) (c .before .before .scan-y .ensures)
+    at-block 8 2 (a .stride) (a .x) (a .y) (length (a .plane .now)) (a .k) _ _ (marksOf (a .marks)) scan-2 (omega arith) (u .pre .0 .2) (u .pre .0 .0) (u .pre .0 .1)
+    (c .sides-of .ensures) (c .before .scan-x .ensures) (c .before .before .scan-y .ensures)
 
 mul-row : tie.Need-mul-row
-mul-row c = let h = top (c .before) in omega arith
+mul-row c = let h = top (c .before .before) in omega arith
 
 scan-y-requires : tie.Need-scan-y-requires
-scan-y-requires c κs = let h = c .before .pre .0 .2 in omega arith
+scan-y-requires c κs = let h = c .before .before .pre .0 .2 in omega arith
 
 add-row : tie.Need-add-row
-add-row c = let u = c .before .before in let h = top u in let v = scan-2 .y-lt (u .args .k) (u .pre .0 .2) in omega (arith, c .scan-y .ensures)
+add-row c = let u = c .before .before .before in let h = top u in let v = scan-2 .y-lt (u .args .k) (u .pre .0 .2) in omega (arith, c .scan-y .ensures)
 
 scan-x-requires : tie.Need-scan-x-requires
-scan-x-requires c κs = let h = c .before .before .pre .0 .2 in omega arith
+scan-x-requires c κs = let h = c .before .before .before .pre .0 .2 in omega arith
 
 add-column : tie.Need-add-column
 add-column c =
-    let u = c .before .before .before in
+    let u = c .before .before .before .before in
     let f = u .pre .0 .0 in
     let v = scan-2 .x-lt (u .args .k) (u .pre .0 .2) in
     omega (arith, f .wide, f .short, c .scan-x .ensures)
 
-marks-of-requires : tie.Need-marks-of-requires
-marks-of-requires c κs = (scan-2, omega arith, c .before .before .before .pre .0 .2)
+sides-of-requires : tie.Need-sides-of-requires
+sides-of-requires c κs = (scan-2, omega arith, c .before .before .before .before .pre .0 .2)
 
-element-copy-out-predict-8x8 : tie.Need-element-copy-out-predict-8x8
-element-copy-out-predict-8x8 c = let h = c .before .before .before .before .before .pre .0 .2 in omega arith
+shared-slice-read-predict-8x8 : tie.Need-shared-slice-read-predict-8x8
+shared-slice-read-predict-8x8 c = let u = c .before .before .before .before .before .before .before in omega (arith, u .pre .0 .2, u .pre .1 .1)
 
 predict-8x8-requires : tie.Need-predict-8x8-requires
 predict-8x8-requires c κs =
     let e = c .before .before in
-    let u = e .before .before .before .before in
+    let u = e .before .before .before .before .before in
     let a = u .args in
     let w = block e in
-    ((w .fits, w .beside), fine-at (e .marks-of .ensures) 8 permittedNxN (getD (a .modes .now) (a .k) 0) (u .pre .1 .0))
+    ((w .fits, w .beside), fine-at (e .sides-of .ensures) 8 permittedNxN (getD (a .modes .now) (a .k) 0) (u .pre .1 .0))
 
 put-8x8-requires : tie.Need-put-8x8-requires
 put-8x8-requires c κs =
     let e = c .before .before .before .before .before in
-    let u = e .before .before .before .before in
-    (block e .fits, search needs, u .pre .0 .2, u .pre .1 .1)
+    let u = e .before .before .before .before .before in
+    (block e .fits, search needs, u .pre .0 .2, u .pre .1 .2)
 
 returns : tie.Need-returns
 returns c numbers T =
     let p = c .before .before in
     let d = p .before .before .before in
     let e = d .before .before .before in
-    let u = e .before .before .before .before in
+    let u = e .before .before .before .before .before in
     let a = u .args in
-    let m = e .marks-of .result in
+    let m = e .sides-of .result in
     let Y = a .y * 2 + e .before .before .scan-y .result in
     let Z = a .x * 2 + e .before .scan-x .result in
-    part-is eight (lumaRule 1 (a .modes .now) numbers) (a .stride) (a .x) (a .y) (a .k) Y Z (marksOf (a .a) (a .b) (a .c) (a .d)) (a .plane .now) _ (e .marks-of .ensures)
+    part-is eight (lumaRule 1 (a .modes .now) numbers) (a .stride) (a .x) (a .y) (a .k) Y Z (marksOf (a .marks)) (a .plane .now) _ (e .sides-of .ensures)
     (ap (λ n. a .y * 2 + n) (e .before .before .scan-y .ensures)) (ap (λ n. a .x * 2 + n) (e .before .scan-x .ensures))
     (p .put-8x8 .ensures
     ∙ drawn 8 (a .stride) Y Z
-    (pred8x8L (getD (a .modes .now) (a .k) 0) (m .above) (m .left) (m .corner) (around 8 (a .stride) Y Z (a .plane .now) 16 (m .above) (m .left) (m .corner) (m .right))) (λ x y. at (a .residuals .now) (64 * a .k + (y * 8 + x))) (λ x y. at numbers (64 * a .k + (y * 8 + x)))
+    (pred8x8L (getD (a .modes .now) (a .k) 0) (m .above) (m .left) (m .corner) (around 8 (a .stride) Y Z (a .plane .now) 16 (m .above) (m .left) (m .corner) (m .«above_right»))) (λ x y. at (a .residuals .now) (64 * a .k + (y * 8 + x))) (λ x y. at numbers (64 * a .k + (y * 8 + x)))
     (λ x y. y * 8 + x) (d .predict-8x8 .result) (a .plane .now) (omega arith) (d .predict-8x8 .ensures) (λ x y. omega arith)
     (λ x y hx hy. T .before (64 * a .k + (y * 8 + x)) (omega (arith, u .pre .0 .2))))
 
@@ -94,8 +95,8 @@ block-8x8-spec =
     (λ c. search needs)
     scan-x-requires
     add-column
-    marks-of-requires
-    element-copy-out-predict-8x8
+    sides-of-requires
+    shared-slice-read-predict-8x8
     predict-8x8-requires
     (λ c. search needs)
     put-8x8-requires

@@ -4,7 +4,8 @@ use Prim.Native.Nat.{_+_, _*_}
 use native.Mathlib.Omega.{arith}
 use Rattle.laws.specs.Steps.{upTo}
 use Rattle.samples.specs.IntraChroma.{predC}
-use Rattle.macroblock.specs.Cut.{marksOf, whole}
+use Rattle.maps.specs.Neighbours.{marksOf}
+use Rattle.macroblock.specs.Cut.{whole}
 use Rattle.macroblock.specs.Kinds.{chromaRule, residualIn}
 use Rattle.macroblock.specs.Square.{around}
 use Rattle.macroblock.specs.inner.Blocks.{inPieces}
@@ -30,10 +31,10 @@ returns c first numbers low T =
     let d = p .before .before .before in
     let u = d .before .before .before in
     let a = u .args in
-    part-is (whole 8) (chromaRule (a .mode) numbers (a .base)) (a .stride) (a .x) (a .y) 0 (a .y) (a .x) (marksOf (a .a) (a .b) (a .c) (a .d)) (a .plane .now) _
-    (whole-marked (a .a) (a .b) (a .c) (a .d)) (whole-row (a .y)) (whole-column (a .x))
+    part-is (whole 8) (chromaRule (a .mode) numbers (a .base)) (a .stride) (a .x) (a .y) 0 (a .y) (a .x) (marksOf (a .marks)) (a .plane .now) _
+    (whole-marked (a .marks)) (whole-row (a .y)) (whole-column (a .x))
     (p .put-pieces .ensures
-    ∙ drawn 8 (a .stride) (a .y) (a .x) (predC (a .mode) (a .b) (a .a) (around 8 (a .stride) (a .y) (a .x) (a .plane .now) 8 (a .b) (a .a) (a .d) (a .c)))
+    ∙ drawn 8 (a .stride) (a .y) (a .x) (predC (a .mode) (a .marks .b) (a .marks .a) (around 8 (a .stride) (a .y) (a .x) (a .plane .now) 8 (a .marks .b) (a .marks .a) (a .marks .d) (a .marks .c)))
     (inPieces (a .residuals .now) (a .base)) (residualIn numbers (a .base)) (λ x y. y * 8 + x) (d .predict-chroma .result) (a .plane .now) (omega arith) (d .predict-chroma .ensures) (λ x y. refl) (pieces-transformed 2 (a .base) scan-2 low (omega (arith, u .pre .1 .2)) T))
 
 pub chroma-square-spec : {M : Type 1} → statement M

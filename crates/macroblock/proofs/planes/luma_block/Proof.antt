@@ -4,7 +4,7 @@ use mathlib.Core.List.{List}
 use Prim.Native.Nat.{ℕ, _<_}
 use native.Mathlib.Omega.{arith}
 use lib.IntN.{ℤ}
-use Rattle.macroblock.specs.Cut.{marksOf}
+use Rattle.maps.specs.Neighbours.{marksOf}
 use Rattle.macroblock.specs.Kinds.{cutFor, lumaRule}
 use Rattle.macroblock.specs.Rules.{used}
 use Rattle.macroblock.specs.Square.{part}
@@ -16,19 +16,19 @@ use Rattle.macroblock.proofs.planes.luma_block.Tie as tie
 
 block-4x4-requires : tie.Need-block-4x4-requires
 block-4x4-requires c κs =
-    let u = c .before .before .before in
+    let u = c .before .before .before .before in
     let a = u .args in
     let e : a .kind ≡ 0 = omega arith in
     let p = u .pre in
-    ((p .0 .0, p .0 .1, subst (λ n. a .k < used n) e (p .0 .2)), (subst (λ n. modeFine n (a .modes .now) (marksOf (a .a) (a .b) (a .c) (a .d)) (a .k) ≡ 0) e (p .1 .0), p .1 .1))
+    ((p .0 .0, p .0 .1, subst (λ n. a .k < used n) e (p .0 .2)), (subst (λ n. modeFine n (a .modes .now) (marksOf (a .marks)) (a .k) ≡ 0) e (p .1 .0), p .1 .1, p .1 .2))
 
 block-8x8-requires : tie.Need-block-8x8-requires
 block-8x8-requires c κs =
-    let u = c .before .before .before .before in
+    let u = c .before .before .before .before .before in
     let a = u .args in
     let e : a .kind ≡ 1 = omega arith in
     let p = u .pre in
-    ((p .0 .0, p .0 .1, subst (λ n. a .k < used n) e (p .0 .2)), (subst (λ n. modeFine n (a .modes .now) (marksOf (a .a) (a .b) (a .c) (a .d)) (a .k) ≡ 0) e (p .1 .0), p .1 .1))
+    ((p .0 .0, p .0 .1, subst (λ n. a .k < used n) e (p .0 .2)), (subst (λ n. modeFine n (a .modes .now) (marksOf (a .marks)) (a .k) ≡ 0) e (p .1 .0), p .1 .1, p .1 .2))
 
 -- the one block of kind 2
 first : (k : ℕ) → k < 1 → k ≡ 0
@@ -37,21 +37,22 @@ first k h = omega arith
 block-16x16-requires : tie.Need-block-16x16-requires
 block-16x16-requires c κs =
     let d = c .before in
-    let u = d .before .before .before in
+    let u = d .before .before .before .before in
     let a = u .args in
     let p = u .pre in
-    let fine = modeFine 2 (a .modes .now) (marksOf (a .a) (a .b) (a .c) (a .d)) in (
+    let fine = modeFine 2 (a .modes .now) (marksOf (a .marks)) in (
       (p .0 .0, p .0 .1),
       (
-        other-kind (λ n. a .k < used n → modeFine n (a .modes .now) (marksOf (a .a) (a .b) (a .c) (a .d)) (a .k) ≡ 0 → fine 0 ≡ 0) (λ j l e. subst (λ k. fine k ≡ 0) (first (a .k) l) e)
+        other-kind (λ n. a .k < used n → modeFine n (a .modes .now) (marksOf (a .marks)) (a .k) ≡ 0 → fine 0 ≡ 0) (λ j l e. subst (λ k. fine k ≡ 0) (first (a .k) l) e)
             (a .kind) (d .before .if1 .left) (d .if2 .left) (p .0 .2) (p .1 .0),
         p .1 .1,
+        p .1 .2,
       ),
     )
 
 -- block k of a kind, rebuilt, and what its numbers must be
 rebuilt : (u : tie.Start) → List ℤ → ℕ → ℕ → List ℕ
-rebuilt u numbers n k = let a = u .args in part (cutFor n) (lumaRule n (a .modes .now) numbers) (a .stride) (a .x) (a .y) (marksOf (a .a) (a .b) (a .c) (a .d)) k (a .plane .now)
+rebuilt u numbers n k = let a = u .args in part (cutFor n) (lumaRule n (a .modes .now) numbers) (a .stride) (a .x) (a .y) (marksOf (a .marks)) k (a .plane .now)
 
 abbrev ready : (u : tie.Start) → List ℤ → ℕ → Type 0
 ready u numbers n = Transformed (firstFor n) numbers (u .args .residuals .now)
@@ -59,14 +60,14 @@ ready u numbers n = Transformed (firstFor n) numbers (u .args .residuals .now)
 returns : tie.Need-returns
 unfolding rebuilt
 returns c numbers T =
-    let u = c .before .before .before .before .before .before in
+    let u = c .before .before .before .before .before .before .before in
     let e : u .args .kind ≡ 0 = omega arith in
     c .before .before .block-4x4 .ensures numbers (subst (ready u numbers) e T) ∙ ap (λ n. rebuilt u numbers n (u .args .k)) (sym e)
 
 returns-2 : tie.Need-returns-2
 unfolding rebuilt
 returns-2 c numbers T =
-    let u = c .before .before .before .before .before .before .before in
+    let u = c .before .before .before .before .before .before .before .before in
     let e : u .args .kind ≡ 1 = omega arith in
     c .before .before .block-8x8 .ensures numbers (subst (ready u numbers) e T) ∙ ap (λ n. rebuilt u numbers n (u .args .k)) (sym e)
 
@@ -75,7 +76,7 @@ unfolding rebuilt
 returns-3 c numbers T =
     let b = c .before .before in
     let d = b .before .before in
-    let u = d .before .before .before in
+    let u = d .before .before .before .before in
     let k = u .args .k in
     let n₀ = d .before .if1 .left in
     let n₁ = d .if2 .left in

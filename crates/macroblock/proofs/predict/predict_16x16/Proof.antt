@@ -18,8 +18,8 @@ returns c =
     let t = l .before .before .before in
     let u = t .before .before .before in
     let a = u .args in
-    let m = a .m in
-    predicted 16 (a .stride) (a .row) (a .column) 16 256 (a .plane .now) (m .above) (m .left) (m .right)
+    let m = a .sides in
+    predicted 16 (a .stride) (a .row) (a .column) 16 256 (a .plane .now) (m .above) (m .left) (m .«above_right»)
     (λ top left corner. blockOf 16 (predL (a .mode) (m .above) (m .left) (near top left corner))) (replicate 256 0)
     3 (permitted16x16 (m .above) (m .left) (m .corner)) (a .mode) (p .luma16x16-pred-into .ensures .0) refl (u .pre .1) (p .luma16x16-pred-into .ensures .1) (t .above-of .ensures) (l .left-of .ensures)
     (r .corner-of .ensures)

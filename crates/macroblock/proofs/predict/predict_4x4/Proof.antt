@@ -18,8 +18,8 @@ returns c =
     let t = l .before .before .before in
     let u = t .before .before .before in
     let a = u .args in
-    let m = a .m in
-    predicted 4 (a .stride) (a .row) (a .column) 8 16 (a .plane .now) (m .above) (m .left) (m .right)
+    let m = a .sides in
+    predicted 4 (a .stride) (a .row) (a .column) 8 16 (a .plane .now) (m .above) (m .left) (m .«above_right»)
     (λ top left corner. blockOf 4 (pred4x4L (a .mode) (m .above) (m .left) (m .corner) (near top left corner))) (replicate 16 0)
     8 (permittedNxN (m .above) (m .left) (m .corner)) (a .mode) (p .intra4x4-pred-into .ensures .0) refl (u .pre .1) (p .intra4x4-pred-into .ensures .1) (t .above-of .ensures) (l .left-of .ensures)
     (r .corner-of .ensures)

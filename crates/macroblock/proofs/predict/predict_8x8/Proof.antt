@@ -18,8 +18,8 @@ returns c =
     let t = l .before .before .before in
     let u = t .before .before .before in
     let a = u .args in
-    let m = a .m in
-    predicted 8 (a .stride) (a .row) (a .column) 16 64 (a .plane .now) (m .above) (m .left) (m .right)
+    let m = a .sides in
+    predicted 8 (a .stride) (a .row) (a .column) 16 64 (a .plane .now) (m .above) (m .left) (m .«above_right»)
     (λ top left corner. blockOf 8 (pred8x8L (a .mode) (m .above) (m .left) (m .corner) (near top left corner))) (replicate 64 0)
     8 (permittedNxN (m .above) (m .left) (m .corner)) (a .mode) (p .intra8x8-pred-into .ensures .0) refl (u .pre .1) (p .intra8x8-pred-into .ensures .1) (t .above-of .ensures) (l .left-of .ensures)
     (r .corner-of .ensures)

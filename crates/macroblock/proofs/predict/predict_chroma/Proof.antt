@@ -18,8 +18,8 @@ returns c =
     let t = l .before .before .before in
     let u = t .before .before .before in
     let a = u .args in
-    let m = a .m in
-    predicted 8 (a .stride) (a .row) (a .column) 8 64 (a .plane .now) (m .above) (m .left) (m .right)
+    let m = a .sides in
+    predicted 8 (a .stride) (a .row) (a .column) 8 64 (a .plane .now) (m .above) (m .left) (m .«above_right»)
     (λ top left corner. blockOf 8 (predC (a .mode) (m .above) (m .left) (near top left corner))) (replicate 64 0)
     3 (permittedChroma (m .above) (m .left) (m .corner)) (a .mode) (p .chroma8x8-pred-into .ensures .0) refl (u .pre .1) (p .chroma8x8-pred-into .ensures .1) (t .above-of .ensures) (l .left-of .ensures)
     (r .corner-of .ensures)

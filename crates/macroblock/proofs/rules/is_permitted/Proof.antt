@@ -4,67 +4,70 @@ use mathlib.Core.Bool.{true}
 use Prim.Native.Nat.{_-_, _≤_}
 use native.Mathlib.Omega.{arith}
 use borrow.Author.Tests.{not-true, not-false}
+use lib.ListN.{length}
 use Rattle.laws.specs.Table.{allBelow}
 use Rattle.laws.proofs.Tests.{all-none, all-more, all-no}
-use Rattle.macroblock.specs.Cut.{marksOf}
-use Rattle.macroblock.specs.Rules.{used, permittedAt}
+use Rattle.maps.specs.Neighbours.{marksOf}
+use Rattle.macroblock.specs.Rules.{used, permittedAt, permitted}
 use Rattle.macroblock.proofs.ByKind.{scan-for, across-few, used-is, used-few}
 use borrow.Author.Needs.{needs}
 use Rattle.macroblock.proofs.rules.is_permitted.Statement.{statement}
 use Rattle.macroblock.proofs.rules.is_permitted.Tie as tie
 
 abbrev Inv-loop : tie.InvT-loop
-Inv-loop kind modes chroma a b c d n m k₀ k = (k ≤ n) × (allBelow k (permittedAt kind modes (marksOf a b c d)) ≡ true)
+Inv-loop marks kind modes chroma n m k₀ k = (k ≤ n) × (length modes ≡ 16) × (allBelow k (permittedAt kind modes (marksOf marks)) ≡ true)
 
 abbrev μ-loop : tie.MeasureT-loop
-μ-loop kind modes chroma a b c d n m k₀ k = n - k
+μ-loop marks kind modes chroma n m k₀ k = n - k
 
 loop-holds : tie.Need-loop-holds Inv-loop μ-loop
-loop-holds c = (omega arith, all-none _)
+loop-holds c = (omega arith, c .before .before .before .pre, all-none _)
 
-marks-of-requires : tie.Need-marks-of-requires Inv-loop μ-loop
-marks-of-requires c κs =
+sides-of-requires : tie.Need-sides-of-requires Inv-loop μ-loop
+sides-of-requires c κs =
     let b = c .before in
     let n = b .before .before in
-    let kind = n .before .args .kind in
+    let kind = n .before .before .args .kind in
     rw (b .before .across .ensures) (scan-for kind, across-few kind, omega (arith, n .used-modes .ensures, used-is kind))
 
-element-copy-out-permits : tie.Need-element-copy-out-permits Inv-loop μ-loop
-element-copy-out-permits c =
-    let b = c .before .before in
+shared-slice-read-permits : tie.Need-shared-slice-read-permits Inv-loop μ-loop
+shared-slice-read-permits c =
+    let b = c .before .before .before in
     let n = b .before .before in
-    omega (arith, n .used-modes .ensures, used-few (n .before .args .kind))
+    omega (arith, b .loop .inv .1, n .used-modes .ensures, used-few (n .before .before .args .kind))
 
 -- the code's test of block k is the definition's
-tested : (c : tie.After-permits Inv-loop μ-loop) → let b = c .before .before .before .before in let a = b .before .before .before .args in
-    c .permits .result ≡ permittedAt (a .kind) (a .modes .now) (marksOf (a .a) (a .b) (a .c) (a .d)) (b .loop .k)
+tested : (c : tie.After-permits Inv-loop μ-loop) → let b = c .before .before .before .before in let a = b .before .before .before .before .args in
+    c .permits .result ≡ permittedAt (a .kind) (a .modes .now) (marksOf (a .marks)) (b .loop .k)
 tested c =
     let s = c .before .before in
     let e = s .before .before .before .across .ensures in
-    let m = s .marks-of .ensures in
+    let m = s .sides-of .ensures in
     c .permits .ensures ∙ rw (m .above-is, m .left-is, m .corner-is, e)
 
 returns : tie.Need-returns Inv-loop μ-loop
-returns c =
+unfolding permitted
+returns c numbers =
     let b = c .before .before .before .before .before in
     let n = b .before .before in
-    let a = n .before .args in
-    rw (all-no (used (a .kind)) (permittedAt (a .kind) (a .modes .now) (marksOf (a .a) (a .b) (a .c) (a .d))) (b .loop .k) (omega (arith, n .used-modes .ensures))
+    let a = n .before .before .args in
+    rw (all-no (used (a .kind)) (permittedAt (a .kind) (a .modes .now) (marksOf (a .marks))) (b .loop .k) (omega (arith, n .used-modes .ensures))
     (sym (tested (c .before)) ∙ not-true _ (c .if1 .taken)))
 
 loop-again : tie.Need-loop-again Inv-loop μ-loop
 loop-again c =
     let b = c .before .before .before .before .before in
-    let a = b .before .before .before .args in
-    (omega arith, all-more (b .loop .k) (permittedAt (a .kind) (a .modes .now) (marksOf (a .a) (a .b) (a .c) (a .d))) (b .loop .inv .1) (sym (tested (c .before)) ∙ not-false _ (c .if1 .left)))
+    let a = b .before .before .before .before .args in
+    (omega arith, b .loop .inv .1, all-more (b .loop .k) (permittedAt (a .kind) (a .modes .now) (marksOf (a .marks))) (b .loop .inv .2) (sym (tested (c .before)) ∙ not-false _ (c .if1 .left)))
 
 returns-2 : tie.Need-returns-2 Inv-loop μ-loop
-returns-2 c =
+unfolding permitted
+returns-2 c numbers =
     let b = c .before .before in
     let n = b .before .before in
-    let a = n .before .args in
+    let a = n .before .before .args in
     let e : b .loop .k ≡ used (a .kind) = omega (arith, n .used-modes .ensures) in
-    rw (c .permits-chroma .ensures, ap (λ n. allBelow n (permittedAt (a .kind) (a .modes .now) (marksOf (a .a) (a .b) (a .c) (a .d)))) (sym e) ∙ b .loop .inv .1)
+    rw (c .permits-chroma .ensures, ap (λ n. allBelow n (permittedAt (a .kind) (a .modes .now) (marksOf (a .marks)))) (sym e) ∙ b .loop .inv .2)
 
 pub is-permitted-spec : {M : Type 1} → statement M
 is-permitted-spec =
@@ -75,8 +78,8 @@ is-permitted-spec =
     (λ c κs. search needs)
     (λ c κs. search needs)
     loop-holds
-    marks-of-requires
-    element-copy-out-permits
+    sides-of-requires
+    shared-slice-read-permits
     (λ c κs. search needs)
     returns
     (λ c. search needs)

@@ -1,0 +1,4 @@
+-- Laws about sizes, neighbours, the done map and starting.
+pub mod Beside
+pub mod Sizes
+pub mod Waiting

@@ -1,0 +1,66 @@
+-- A byte of the done map, and rule 5: it holds exactly when each neighbour that is waited for is done. Assumes nothing.
+use mathlib.Core.Path.{_≡_, refl, _∙_}
+use mathlib.Core.Bool.{Bool, true, false, _&&_}
+use mathlib.Core.List.{List}
+use Prim.Native.Nat.{ℕ}
+use lib.ListN.{getD}
+use borrow.Author.Tests.{eqb-true, eq-eqb, ne-eqb}
+use Rattle.laws.proofs.Tests.{not-both, and-both, implied, implied-of, implied-no}
+use Rattle.order.specs.Order.{Done}
+use Rattle.maps.specs.Done.{isDone, settled, allSettled}
+use Rattle.maps.specs.Neighbours.{Side, beside}
+use Rattle.maps.specs.Neighbours.Side.{A, B, C, D}
+
+module _ (done : List ℕ) (a : ℕ) where
+  pub done-is : isDone done a ≡ true → Done done a
+  done-is e = eqb-true (getD done a 0) 1 e
+
+  pub done-yes : Done done a → isDone done a ≡ true
+  done-yes d = eq-eqb (getD done a 0) 1 d
+
+  pub undone-is : isDone done a ≡ false → ¬ Done done a
+  undone-is e d = not-both (done-yes d) e
+
+  pub undone-yes : ¬ Done done a → isDone done a ≡ false
+  undone-yes n = ne-eqb (getD done a 0) 1 n
+
+module _ (w x y : ℕ) (waited : Side → Bool) (done : List ℕ) where
+  abbrev one : Side → Bool
+  one k = settled w x y waited done k
+
+  pub settled-is : allSettled w x y waited done ≡ true → (k : Side) → waited k ≡ true → Done done (beside w x y k)
+  unfolding allSettled
+  settled-is e k t = done-is done (beside w x y k) (implied (waited k) (isDone done (beside w x y k)) (each k) t)
+    where
+      e₃ : (one A && one B && one C ≡ true) × (one D ≡ true)
+      e₃ = and-both (one A && one B && one C) (one D) e
+
+      e₂ : (one A && one B ≡ true) × (one C ≡ true)
+      e₂ = and-both (one A && one B) (one C) (e₃ .0)
+
+      each : (k : Side) → one k ≡ true
+      each A = and-both (one A) (one B) (e₂ .0) .0
+      each B = and-both (one A) (one B) (e₂ .0) .1
+      each C = e₂ .1
+      each D = e₃ .1
+
+  pub settled-yes : ((k : Side) → waited k ≡ true → Done done (beside w x y k)) → allSettled w x y waited done ≡ true
+  unfolding allSettled
+  settled-yes f = rw (show A, show B, show C, show D)
+    where
+      show : (k : Side) → one k ≡ true
+      show k = implied-of (waited k) (isDone done (beside w x y k)) (λ t. done-yes done (beside w x y k) (f k t))
+
+  -- where it is broken, one that is waited for is undone
+  pub settled-no : allSettled w x y waited done ≡ false → (k : Side) × (waited k ≡ true) × ¬ Done done (beside w x y k)
+  unfolding allSettled
+  settled-no e = go (one A) (one B) (one C) (one D) refl refl refl refl e
+    where
+      at-side : (k : Side) → one k ≡ false → (k : Side) × (waited k ≡ true) × ¬ Done done (beside w x y k)
+      at-side k f = let d = implied-no (waited k) (isDone done (beside w x y k)) f in (k, d .0, undone-is done (beside w x y k) (d .1))
+
+      go : (a b g d : Bool) → one A ≡ a → one B ≡ b → one C ≡ g → one D ≡ d → a && b && g && d ≡ false → (k : Side) × (waited k ≡ true) × ¬ Done done (beside w x y k)
+      go false b g d p q r t f = at-side A p
+      go true false g d p q r t f = at-side B q
+      go true true false d p q r t f = at-side C r
+      go true true true d p q r t f = at-side D (t ∙ f)

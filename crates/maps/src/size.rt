@@ -1,0 +1,24 @@
+// Sizes of pictures, and places in them, in macroblocks.
+ghost use mathlib.Core.Path.{_≡_};
+ghost use mathlib.Core.Bool.{_&&_};
+ghost use Rattle.maps.specs.Size.{sizeOk, placeOk};
+
+// Whether W is 1..120 and H is 1..68.
+pub fn size_ok(w: u32, h: u32) -> bool
+    ensures { λ r. ⌜ r ≡ sizeOk w h ⌝ }
+{
+    both(both(both(w >= 1, w <= 120), h >= 1), h <= 68)
+}
+
+// Whether (x, y) is a macroblock of the picture.
+pub fn place_ok(w: u32, h: u32, x: u32, y: u32) -> bool
+    ensures { λ r. ⌜ r ≡ placeOk w h x y ⌝ }
+{
+    both(x < w, y < h)
+}
+
+pub(crate) fn both(p: bool, q: bool) -> bool
+    ensures { λ r. ⌜ r ≡ p && q ⌝ }
+{
+    if p { q } else { false }
+}

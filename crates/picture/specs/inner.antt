@@ -1,2 +1,0 @@
--- What only private functions' contracts speak of.
-pub mod Facts
