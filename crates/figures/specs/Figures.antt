@@ -10,7 +10,7 @@ use Rattle.laws.specs.Table.{table, sumOf, sumZ}
 use Rattle.residual.specs.Clip.{Clip1}
 use Rattle.samples.specs.Intra16x16.{predL}
 use Rattle.samples.specs.IntraChroma.{regionDc, predC}
-use Rattle.samples.specs.IntraNxN.{downLeft, downRight, verticalRight, horizontalDown, verticalLeft, horizontalUp, predNxN, pred4x4L, filteredSide, filteredCorner, filtered}
+use Rattle.intra_nxn.specs.IntraNxN.{downLeft, downRight, verticalRight, horizontalDown, verticalLeft, horizontalUp, predNxN, pred4x4L, filteredSide, filteredCorner, filtered}
 use Rattle.residual.specs.Inverse.{oneDimensional, rowOf, columnOf, rounded, inverse4x4}
 use Rattle.samples.specs.Near.{Near, near, mean, dc}
 use Rattle.samples.specs.PlaneMode.{slope, ramp, plane}

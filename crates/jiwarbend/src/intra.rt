@@ -6,7 +6,7 @@ ghost use Rattle.laws.specs.Answer.{_unless_, answer, written};
 ghost use Rattle.laws.specs.Table.{blockOf};
 ghost use Rattle.samples.specs.Intra16x16.{predL};
 ghost use Rattle.samples.specs.IntraChroma.{chromaDc, predC};
-ghost use Rattle.samples.specs.IntraNxN.{pred4x4L, pred8x8L};
+ghost use Rattle.intra_nxn.specs.IntraNxN.{pred4x4L, pred8x8L};
 ghost use Rattle.samples.specs.Marks.{permittedNxN, permitted16x16, permittedChroma};
 ghost use Rattle.samples.specs.Near.{near, dc};
 ghost use Rattle.jiwarbend.specs.Exports.{_has_};
@@ -25,7 +25,7 @@ pub extern "C" fn jiwarbend_intra4x4_pred(
     ensures { λ r. ⌜ r ≡ answer (2 unless now (top .entry) has 8 ∷ 2 unless now (left .entry) has 4 ∷ 2 unless now (out .entry) has 16 ∷ 6 unless leb mode 8 ∷ 7 unless permittedNxN «avail_top» «avail_left» «avail_corner» mode ∷ []) ⌝ }
     ensures { λ r. ⌜ now (out .exit) ≡ written r (now (out .entry)) (blockOf 4 (pred4x4L mode «avail_top» «avail_left» «avail_corner» (near (now (top .entry)) (now (left .entry)) corner))) ⌝ }
 {
-    samples::intra_nxn::intra4x4_pred_into(
+    intra_nxn::intra_4x4::intra4x4_pred_into(
         mode,
         avail_top,
         avail_left,
@@ -51,7 +51,7 @@ pub extern "C" fn jiwarbend_intra8x8_pred(
     ensures { λ r. ⌜ r ≡ answer (2 unless now (top .entry) has 16 ∷ 2 unless now (left .entry) has 8 ∷ 2 unless now (out .entry) has 64 ∷ 6 unless leb mode 8 ∷ 7 unless permittedNxN «avail_top» «avail_left» «avail_corner» mode ∷ []) ⌝ }
     ensures { λ r. ⌜ now (out .exit) ≡ written r (now (out .entry)) (blockOf 8 (pred8x8L mode «avail_top» «avail_left» «avail_corner» (near (now (top .entry)) (now (left .entry)) corner))) ⌝ }
 {
-    samples::intra_nxn::intra8x8_pred_into(
+    intra_nxn::intra_8x8::intra8x8_pred_into(
         mode,
         avail_top,
         avail_left,

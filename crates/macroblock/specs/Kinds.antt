@@ -10,7 +10,7 @@ use Rattle.laws.specs.Table.{table}
 use Rattle.residual.specs.Clip.{Clip1}
 use Rattle.samples.specs.Intra16x16.{predL}
 use Rattle.samples.specs.IntraChroma.{predC}
-use Rattle.samples.specs.IntraNxN.{pred4x4L, pred8x8L}
+use Rattle.intra_nxn.specs.IntraNxN.{pred4x4L, pred8x8L}
 use Rattle.residual.specs.Inverse.{inverse4x4}
 use Rattle.samples.specs.Near.{Near}
 use Rattle.residual.specs.Nnz.{blkIdx}

@@ -4,7 +4,7 @@ ghost use lib.ListN.{length};
 ghost use Rattle.laws.specs.Table.{blockOf};
 ghost use Rattle.samples.specs.Intra16x16.{predL};
 ghost use Rattle.samples.specs.IntraChroma.{predC};
-ghost use Rattle.samples.specs.IntraNxN.{pred4x4L, pred8x8L};
+ghost use Rattle.intra_nxn.specs.IntraNxN.{pred4x4L, pred8x8L};
 ghost use Rattle.samples.specs.Marks.{permittedNxN, permitted16x16, permittedChroma, modeAnswer};
 ghost use Rattle.macroblock.specs.Square.{around};
 ghost use Rattle.macroblock.specs.inner.Blocks.{Fits, Beside};
@@ -40,7 +40,7 @@ pub(crate) fn predict_4x4(
     left_of(plane, stride, 4, row, column, sides.left, &mut left);
     let corner = corner_of(plane, stride, 4, row, column, sides.corner);
     let mut pred = [0u8; 16];
-    samples::intra_nxn::intra4x4_pred_into(
+    intra_nxn::intra_4x4::intra4x4_pred_into(
         mode,
         sides.above,
         sides.left,
@@ -80,7 +80,7 @@ pub(crate) fn predict_8x8(
     left_of(plane, stride, 8, row, column, sides.left, &mut left);
     let corner = corner_of(plane, stride, 8, row, column, sides.corner);
     let mut pred = [0u8; 64];
-    samples::intra_nxn::intra8x8_pred_into(
+    intra_nxn::intra_8x8::intra8x8_pred_into(
         mode,
         sides.above,
         sides.left,

@@ -2,21 +2,24 @@
 use mathlib.Core.Path.{_≡_, refl, ap, _∙_}
 use mathlib.Core.Bool.{Bool, not, _&&_}
 use mathlib.Core.List.{List, [], _∷_, _++_}
-use Prim.Native.Nat.{ℕ, _+_, _-_, _*_, _/_, _%_, _<_}
+use Prim.Native.Nat.{ℕ, _+_, _-_, _*_, _/_, _%_, _≤_, _<_, min}
 use native.Mathlib.Omega.{arith}
+use borrow.Rule.Slice.PartMut.{putMid, midOf}
 use lib.IntN.{ℤ}
-use lib.ListN.{getD, drop}
+use lib.ListN.{length, getD, drop, replicate}
 use mir.Syntax.{w32}
 use mir.Val.{toZ, ofZ}
 use Rattle.laws.specs.Table.{table, blockOf, sumOf, onto}
-use Rattle.laws.proofs.Ontos.{onto-same}
+use Rattle.laws.proofs.Ontos.{onto-none, onto-same}
 use Rattle.laws.proofs.Sums.{sum-same}
 use Rattle.laws.proofs.Tables.{getD-table}
-use Rattle.samples.specs.IntraChroma.{regionDc, chromaDc}
+use Rattle.samples.specs.Intra16x16.{predL}
+use Rattle.samples.specs.IntraChroma.{regionDc, chromaDc, predC}
 use Rattle.samples.specs.Near.{near, vertical, horizontal, mean, dc}
 use Rattle.samples.specs.PlaneMode.{ramp, plane}
 use Rattle.samples.specs.inner.Plane.{Sloped}
-use Rattle.samples.proofs.Dc.{dc-is}
+use Rattle.samples.proofs.Dc.{SumOf, mean-is, dc-is}
+use Rattle.samples.proofs.Lines.{fill-part}
 use Rattle.samples.proofs.Near.{near-above, near-left}
 use Rattle.samples.proofs.PlaneMode.{plane-is}
 
@@ -42,21 +45,25 @@ module _ (n : ℕ) (top left : List ℕ) (corner : ℕ) (old : List ℕ) (pred :
 
 module _ (above left : Bool) (row column : List ℕ) (corner : ℕ) where
   -- DC by the sums of the two sides
-  pub dc-near : (n : ℕ) {r a l : ℕ} → r ≡ mean n above left a l → a ≡ sumOf n (λ i. getD row (0 + i) 0) → l ≡ sumOf n (λ i. getD column (0 + i) 0)
+  pub dc-near : (n : ℕ) {r a l : ℕ} → 1 ≤ n → r ≡ min 255 (mean n above left a l) → SumOf n (λ i. getD row (0 + i) 0) a → SumOf n (λ i. getD column (0 + i) 0) l
       → r ≡ dc n above left (near row column corner)
-  dc-near n er ea el =
-      dc-is n above left (near row column corner) _ _ er ea el (λ k _. near-above row column corner (0 + k) (k + 1) (omega arith))
+  dc-near n some er ea el =
+      dc-is n above left (near row column corner) _ _ some er ea el (λ k _. near-above row column corner (0 + k) (k + 1) (omega arith))
       (λ k _. near-left row column corner (0 + k) (k + 1) (omega arith))
 
   -- the four regions, by the sums of half a side each
   pub regions-are : {a₀ a₄ l₀ l₄ r₀ r₁ r₂ r₃ : ℕ}
-      → a₀ ≡ sumOf 4 (λ i. getD row (0 + i) 0) → a₄ ≡ sumOf 4 (λ i. getD row (4 + i) 0)
-      → l₀ ≡ sumOf 4 (λ i. getD column (0 + i) 0) → l₄ ≡ sumOf 4 (λ i. getD column (4 + i) 0)
-      → r₀ ≡ mean 4 above left a₀ l₀ → r₁ ≡ mean 4 above (left && not above) a₄ l₀ → r₂ ≡ mean 4 (above && not left) left a₀ l₄ → r₃ ≡ mean 4 above left a₄ l₄
+      → SumOf 4 (λ i. getD row (0 + i) 0) a₀ → SumOf 4 (λ i. getD row (4 + i) 0) a₄ → SumOf 4 (λ i. getD column (0 + i) 0) l₀ → SumOf 4 (λ i. getD column (4 + i) 0) l₄
+      → r₀ ≡ min 255 (mean 4 above left a₀ l₀) → r₁ ≡ min 255 (mean 4 above (left && not above) a₄ l₀)
+      → r₂ ≡ min 255 (mean 4 (above && not left) left a₀ l₄) → r₃ ≡ min 255 (mean 4 above left a₄ l₄)
       → r₀ ∷ r₁ ∷ r₂ ∷ r₃ ∷ [] ≡ table 4 (λ k. regionDc above left (near row column corner) (k % 2 * 4) (k / 2 * 4))
   unfolding table regionDc
-  regions-are ea₀ ea₄ el₀ el₄ h₀ h₁ h₂ h₃ = rw (h₀, h₁, h₂, h₃, ea₀ ∙ sum-row 0, ea₄ ∙ sum-row 4, el₀ ∙ sum-column 0, el₄ ∙ sum-column 4)
+  regions-are ea₀ ea₄ el₀ el₄ h₀ h₁ h₂ h₃ =
+      rw (means above left (ea₀ .1) (el₀ .1) h₀, means above (left && not above) (ea₄ .1) (el₀ .1) h₁, means (above && not left) left (ea₀ .1) (el₄ .1) h₂, means above left (ea₄ .1) (el₄ .1) h₃, ea₀ .0 ∙ sum-row 0, ea₄ .0 ∙ sum-row 4, el₀ .0 ∙ sum-column 0, el₄ .0 ∙ sum-column 4)
     where
+      means : (above left : Bool) {a l r : ℕ} → a ≤ 255 * 4 → l ≤ 255 * 4 → r ≡ min 255 (mean 4 above left a l) → r ≡ mean 4 above left a l
+      means above left ha hl h = mean-is 4 above left _ _ (omega arith) ha hl h
+
       sum-row : (from : ℕ) → sumOf 4 (λ i. getD row (from + i) 0) ≡ sumOf 4 (λ x. near row column corner (from + x + 1) 0)
       sum-row from = sum-same 4 _ _ (λ k _. near-above row column corner (from + k) (from + k + 1) refl)
 
@@ -71,3 +78,44 @@ module _ (above left : Bool) (row column : List ℕ) (corner : ℕ) where
       let x : r % 2 * 4 ≡ k % 8 / 4 * 4 = omega arith in
       let y : r / 2 * 4 ≡ k / 8 / 4 * 4 = omega arith in
       ap (λ (l : List ℕ). getD l r 0) e ∙ getD-table 0 4 _ r (omega arith) ∙ rw (x, y)
+
+-- ---- each mode's block, as its function leaves it
+module _ (mode : ℕ) (above left : Bool) (row column : List ℕ) (corner : ℕ) (old : List ℕ) where
+  abbrev luma : ℕ → ℕ → ℕ
+  luma = predL mode above left (near row column corner)
+
+  abbrev chroma : ℕ → ℕ → ℕ
+  chroma = predC mode above left (near row column corner)
+
+  pub luma-down : {out : List ℕ} → mode ≡ 0 → out ≡ onto 256 (λ k. getD row (k % 16) 0) old → Drawn 16 old luma out
+  unfolding predL
+  luma-down h e = down-is 16 row column corner old luma e (λ x y. rw h)
+
+  pub luma-across : {out : List ℕ} → mode ≡ 1 → out ≡ onto 256 (λ k. getD column (k / 16) 0) old → Drawn 16 old luma out
+  unfolding predL
+  luma-across h e = across-is 16 row column corner old luma e (λ x y. rw h)
+
+  pub luma-dc : {out : List ℕ} → (v : ℕ) → mode ≡ 2 → 256 ≤ length old → v ≡ dc 16 above left (near row column corner) → {ys : List ℕ} → ys ≡ replicate (length (midOf 0 256 old)) v
+      → out ≡ putMid 0 256 old ys → Drawn 16 old luma out
+  unfolding predL
+  luma-dc v h long e put q = q ∙ fill-part 0 256 v (λ k. luma (k % 16) (k / 16)) old old (omega arith) long (onto-none _ old) put (λ i _. rw h e)
+
+  pub luma-plane : {out : List ℕ} → mode ≡ 3 → Drawn 16 old (plane 8 5 (near row column corner)) out → Drawn 16 old luma out
+  unfolding predL
+  luma-plane h e = rw h e
+
+  pub chroma-dc : {out : List ℕ} → mode ≡ 0 → Drawn 8 old (chromaDc above left (near row column corner)) out → Drawn 8 old chroma out
+  unfolding predC
+  chroma-dc h e = rw h e
+
+  pub chroma-across : {out : List ℕ} → mode ≡ 1 → out ≡ onto 64 (λ k. getD column (k / 8) 0) old → Drawn 8 old chroma out
+  unfolding predC
+  chroma-across h e = across-is 8 row column corner old chroma e (λ x y. rw h)
+
+  pub chroma-down : {out : List ℕ} → mode ≡ 2 → out ≡ onto 64 (λ k. getD row (k % 8) 0) old → Drawn 8 old chroma out
+  unfolding predC
+  chroma-down h e = down-is 8 row column corner old chroma e (λ x y. rw h)
+
+  pub chroma-plane : {out : List ℕ} → mode ≡ 3 → Drawn 8 old (plane 4 34 (near row column corner)) out → Drawn 8 old chroma out
+  unfolding predC
+  chroma-plane h e = rw h e

@@ -1,9 +1,7 @@
 -- The definitions that the crate's contracts cite, by clause.
 pub mod Intra16x16
 pub mod IntraChroma
-pub mod IntraNxN
 pub mod IntraPlane
-pub mod LumaPromise
 pub mod Marks
 pub mod Near
 pub mod PlaneMode

@@ -2,7 +2,7 @@
 -- marked as available), and the numbers of the predictors' answers.
 use mathlib.Core.Bool.{Bool, true, false, cond, _&&_, _||_}
 use mathlib.Core.List.{List, [], _∷_}
-use Prim.Native.Nat.{ℕ, _/_, _%_, _^_}
+use Prim.Native.Nat.{ℕ, _*_, _/_, _%_, _^_}
 use lib.Dec.{eqb, leb}
 use Rattle.laws.specs.Answer.{_unless_, answer}
 use Rattle.laws.specs.Table.{sumOf}
@@ -37,3 +37,8 @@ modeSet n permitted = sumOf n (λ m. cond (permitted m) (2 ^ m) 0)
 -- a predictor's answer: 6 for a mode above the last, 7 for one that is not permitted
 abbrev pub modeAnswer : ℕ → (ℕ → Bool) → ℕ → ℕ
 modeAnswer last permitted mode = answer (6 unless leb mode last ∷ 7 unless permitted mode ∷ [])
+
+-- the answer of one that is handed lists, by their lengths: 2 unless there are `wide` samples above, n left and n * n in the block, and then the same
+abbrev pub predAnswer : ℕ → ℕ → ℕ → ℕ → ℕ → ℕ → (ℕ → Bool) → ℕ → ℕ
+predAnswer n wide above left lent last permitted mode =
+    answer (2 unless eqb above wide ∷ 2 unless eqb left n ∷ 2 unless eqb lent (n * n) ∷ 6 unless leb mode last ∷ 7 unless permitted mode ∷ [])

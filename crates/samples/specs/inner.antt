@@ -2,4 +2,3 @@
 pub mod Line
 pub mod Plane
 pub mod Room
-pub mod Run

@@ -1,20 +1,19 @@
 // Intra 16x16 luma prediction (clause 8.3.3): 0 vertical, 1 horizontal, 2 DC, 3 plane.
 ghost use mathlib.Core.Path.{_≡_};
 ghost use Prim.Native.Nat.{ℕ, _≤_};
-ghost use mathlib.Core.List.{[], _∷_, _++_};
-ghost use lib.Dec.{eqb, leb};
+ghost use mathlib.Core.List.{_++_};
 ghost use lib.ListN.{length, drop, replicate};
-ghost use Rattle.laws.specs.Answer.{_unless_, answer, written};
+ghost use Rattle.laws.specs.Answer.{written};
 ghost use Rattle.laws.specs.Table.{blockOf};
 ghost use Rattle.samples.specs.Intra16x16.{predL};
-ghost use Rattle.samples.specs.Marks.{permitted16x16, modeAnswer};
+ghost use Rattle.samples.specs.Marks.{permitted16x16, modeAnswer, predAnswer};
 ghost use Rattle.samples.specs.Near.{near, dc};
 use super::line::across;
 use super::line::down;
 use super::line::fill;
 use super::line::sum_of;
-use super::marks::mode_answer;
 use super::marks::permits_16x16;
+use super::marks::pred_answer;
 use super::mean::mean_of;
 use super::plane_mode::plane_over;
 
@@ -70,24 +69,13 @@ pub fn luma16x16_pred_into(
     corner: u8,
     out: &mut [u8],
 ) -> u32
-    ensures answer { λ r. ⌜ r ≡ answer (2 unless eqb (length (now (top .entry))) 16 ∷ 2 unless eqb (length (now (left .entry))) 16 ∷ 2 unless eqb (length (now (out .entry))) 256 ∷ 6 unless leb mode 3 ∷ 7 unless permitted16x16 «avail_top» «avail_left» «avail_corner» mode ∷ []) ⌝ }
+    ensures answer { λ r. ⌜ r ≡ predAnswer 16 16 (length (now (top .entry))) (length (now (left .entry))) (length (now (out .entry)))
+        3 (permitted16x16 «avail_top» «avail_left» «avail_corner») mode ⌝ }
     ensures lent { λ r. ⌜ now (out .exit) ≡ written r (now (out .entry))
         (blockOf 16 (predL mode «avail_top» «avail_left» (near (now (top .entry)) (now (left .entry)) corner))) ⌝ }
 {
-    if top.len() != 16 {
-        return 2;
-    }
-    if left.len() != 16 {
-        return 2;
-    }
-    if out.len() != 256 {
-        return 2;
-    }
-    let answer = mode_answer(
-        mode,
-        3,
-        permits_16x16(mode, avail_top, avail_left, avail_corner),
-    );
+    let permitted = permits_16x16(mode, avail_top, avail_left, avail_corner);
+    let answer = pred_answer(16, 16, top.len(), left.len(), out.len(), mode, 3, permitted);
     if answer != 0 {
         return answer;
     }
@@ -118,7 +106,7 @@ pub(crate) fn predict_16x16(
         return;
     }
     if mode < 3 {
-        fill(dc_16x16(avail_top, avail_left, top, left), 256, out);
+        fill(dc_16x16(avail_top, avail_left, top, left), &mut out[0..256]);
         return;
     }
     plane_over(8, 5, top, left, corner, out);

@@ -1,21 +1,20 @@
 // Intra prediction of an 8x8 block of chroma samples (clause 8.3.4): 0 DC, 1 horizontal, 2 vertical, 3 plane.
 ghost use mathlib.Core.Path.{_≡_};
 ghost use mathlib.Core.Bool.{not, _&&_};
-ghost use mathlib.Core.List.{[], _∷_, _++_};
+ghost use mathlib.Core.List.{_++_};
 ghost use Prim.Native.Nat.{ℕ, _+_, _*_, _/_, _%_, _≤_};
-ghost use lib.Dec.{eqb, leb};
 ghost use lib.ListN.{length, getD, drop, replicate};
-ghost use Rattle.laws.specs.Answer.{_unless_, answer, written};
+ghost use Rattle.laws.specs.Answer.{written};
 ghost use Rattle.laws.specs.Table.{table, blockOf, onto};
 ghost use Rattle.samples.specs.IntraChroma.{regionDc, chromaDc, predC};
-ghost use Rattle.samples.specs.Marks.{permittedChroma, modeAnswer};
+ghost use Rattle.samples.specs.Marks.{permittedChroma, modeAnswer, predAnswer};
 ghost use Rattle.samples.specs.Near.{near};
 use super::line::across;
 use super::line::down;
 use super::line::fill;
 use super::line::sum_of;
-use super::marks::mode_answer;
 use super::marks::permits_chroma;
+use super::marks::pred_answer;
 use super::mean::mean_of;
 use super::plane_mode::plane_over;
 
@@ -73,24 +72,13 @@ pub fn chroma8x8_pred_into(
     corner: u8,
     out: &mut [u8],
 ) -> u32
-    ensures answer { λ r. ⌜ r ≡ answer (2 unless eqb (length (now (top .entry))) 8 ∷ 2 unless eqb (length (now (left .entry))) 8 ∷ 2 unless eqb (length (now (out .entry))) 64 ∷ 6 unless leb mode 3 ∷ 7 unless permittedChroma «avail_top» «avail_left» «avail_corner» mode ∷ []) ⌝ }
+    ensures answer { λ r. ⌜ r ≡ predAnswer 8 8 (length (now (top .entry))) (length (now (left .entry))) (length (now (out .entry)))
+        3 (permittedChroma «avail_top» «avail_left» «avail_corner») mode ⌝ }
     ensures lent { λ r. ⌜ now (out .exit) ≡ written r (now (out .entry))
         (blockOf 8 (predC mode «avail_top» «avail_left» (near (now (top .entry)) (now (left .entry)) corner))) ⌝ }
 {
-    if top.len() != 8 {
-        return 2;
-    }
-    if left.len() != 8 {
-        return 2;
-    }
-    if out.len() != 64 {
-        return 2;
-    }
-    let answer = mode_answer(
-        mode,
-        3,
-        permits_chroma(mode, avail_top, avail_left, avail_corner),
-    );
+    let permitted = permits_chroma(mode, avail_top, avail_left, avail_corner);
+    let answer = pred_answer(8, 8, top.len(), left.len(), out.len(), mode, 3, permitted);
     if answer != 0 {
         return answer;
     }
@@ -168,7 +156,7 @@ fn spread(d: &[u8; 4], out: &mut [u8])
     ensures { λ _. ⌜ now (out .exit) ≡ onto 64 (λ k. getD (now (d .entry)) (k / 32 * 2 + k % 8 / 4) 0) (now (out .entry)) ⌝ }
 {
     for y in 0..8 {
-        fill(d[y / 4 * 2], 4, &mut out[8 * y..]);
-        fill(d[y / 4 * 2 + 1], 4, &mut out[8 * y + 4..]);
+        fill(d[y / 4 * 2], &mut out[8 * y..8 * y + 4]);
+        fill(d[y / 4 * 2 + 1], &mut out[8 * y + 4..8 * y + 8]);
     }
 }

@@ -43,12 +43,11 @@ pub(crate) fn sum_of(side: &[u8], from: usize, n: usize) -> u32
     s
 }
 
-// The value v over the first n bytes.
-pub(crate) fn fill(v: u8, n: usize, out: &mut [u8])
-    requires { ⌜ n ≤ length (now out) ⌝ }
-    ensures { λ _. ⌜ now (out .exit) ≡ onto n (λ _. v) (now (out .entry)) ⌝ }
+// The value v over every byte.
+pub fn fill(v: u8, out: &mut [u8])
+    ensures { λ _. ⌜ now (out .exit) ≡ replicate (length (now (out .entry))) v ⌝ }
 {
-    for k in 0..n {
+    for k in 0..out.len() {
         out[k] = v;
     }
 }
@@ -80,6 +79,7 @@ pub(crate) fn across(n: usize, left: &[u8], out: &mut [u8])
     ensures { λ _. ⌜ now (out .exit) ≡ onto (n * n) (λ k. getD (now (left .entry)) (k / n) 0) (now (out .entry)) ⌝ }
 {
     for y in 0..n {
-        fill(left[y], n, &mut out[y * n..]);
+        let at = y * n;
+        fill(left[y], &mut out[at..at + n]);
     }
 }

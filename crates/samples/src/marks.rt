@@ -6,7 +6,7 @@ ghost use mathlib.Core.List.{[], _∷_};
 ghost use Prim.Native.Nat.{_<_};
 ghost use lib.Dec.{eqb, leb};
 ghost use Rattle.laws.specs.Answer.{_unless_, answer};
-ghost use Rattle.samples.specs.Marks.{permittedNxN, permitted16x16, permittedChroma, modeSet, bit};
+ghost use Rattle.samples.specs.Marks.{permittedNxN, permitted16x16, permittedChroma, modeSet, bit, predAnswer};
 
 // The permitted modes of a 4x4 luma block.
 pub fn permitted_4x4(avail_top: bool, avail_left: bool, avail_corner: bool) -> u16
@@ -87,6 +87,33 @@ pub(crate) fn mode_answer(mode: u8, last: u8, permitted: bool) -> u32
         return 0;
     }
     7
+}
+
+// The same for a predictor of blocks of side n that is handed lists, by their lengths: 2 unless there are `wide` samples above, n left and n * n in the
+// block.
+pub fn pred_answer(
+    n: u8,
+    wide: usize,
+    above: usize,
+    left: usize,
+    lent: usize,
+    mode: u8,
+    last: u8,
+    permitted: bool,
+) -> u32
+    ensures { λ r. ⌜ r ≡ predAnswer n wide above left lent last (λ _. permitted) mode ⌝ }
+{
+    let side = n as usize;
+    if above != wide {
+        return 2;
+    }
+    if left != side {
+        return 2;
+    }
+    if lent != side * side {
+        return 2;
+    }
+    mode_answer(mode, last, permitted)
 }
 
 // The nine modes of 4x4 and 8x8 luma blocks.

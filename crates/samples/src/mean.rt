@@ -1,27 +1,43 @@
 // The rounded mean that DC prediction takes (clauses 8.3.1.2.3, 8.3.2.2.4, 8.3.3.3 and 8.3.4.1).
 ghost use mathlib.Core.Path.{_≡_};
-ghost use Prim.Native.Nat.{_*_, _≤_, _<_};
+ghost use Prim.Native.Nat.{_/_, _<_, min};
 ghost use Rattle.samples.specs.Near.{mean};
 
-// The mean of the sides that are there, by the sums of n samples each; 128 where neither is.
-pub(crate) fn mean_of(n: u32, above: bool, left: bool, sum_above: u32, sum_left: u32) -> u8
-    requires { ⌜ (1 ≤ n) × (n ≤ 16) × («sum_above» ≤ 255 * n) × («sum_left» ≤ 255 * n) ⌝ }
-    ensures { λ r. ⌜ r ≡ mean n above left «sum_above» «sum_left» ⌝ }
+// The mean of the sides that are there, by the sums of n samples each, but no more than 255, which no mean of samples is; 128 where neither is.
+pub fn mean_of(n: u32, above: bool, left: bool, sum_above: u32, sum_left: u32) -> u8
+    ensures { λ r. ⌜ r ≡ min 255 (mean n above left «sum_above» «sum_left») ⌝ }
 {
+    let a = sum_above as u64;
+    let l = sum_left as u64;
+    let m = n as u64;
     if above {
         if left {
-            return ((sum_above + sum_left + n) / (2 * n)) as u8;
+            return byte_over(a + l + m, 2 * m);
         }
-        return ((sum_above + n / 2) / n) as u8;
+        return byte_over(a + m / 2, m);
     }
     if left {
-        return ((sum_left + n / 2) / n) as u8;
+        return byte_over(l + m / 2, m);
     }
     128
 }
 
+// A number over another, no more than 255; over 0 it is 0.
+fn byte_over(s: u64, m: u64) -> u8
+    ensures { λ r. ⌜ r ≡ min 255 (s / m) ⌝ }
+{
+    if m < 1 {
+        return 0;
+    }
+    let q = s / m;
+    if q > 255 {
+        return 255;
+    }
+    q as u8
+}
+
 // A sample as a wider number.
-pub(crate) fn wide(x: u8) -> u32
+pub fn wide(x: u8) -> u32
     ensures { λ r. ⌜ (r ≡ x) × (r < 256) ⌝ }
 {
     x as u32

@@ -4,7 +4,7 @@ use mathlib.Core.Path.{ap, _∙_}
 use Prim.Native.Nat.{_+_, _*_, _≤_}
 use native.Mathlib.Omega.{arith}
 use lib.ListN.{getD, length}
-use Rattle.samples.specs.IntraNxN.{pred8x8L}
+use Rattle.intra_nxn.specs.IntraNxN.{pred8x8L}
 use Rattle.samples.specs.Marks.{permittedNxN}
 use Rattle.maps.specs.Neighbours.{marksOf}
 use Rattle.macroblock.specs.Cut.{eight}

@@ -2,7 +2,7 @@
 use mathlib.Core.Path.{refl}
 use lib.ListN.{replicate}
 use Rattle.laws.specs.Table.{blockOf}
-use Rattle.samples.specs.IntraNxN.{pred4x4L}
+use Rattle.intra_nxn.specs.IntraNxN.{pred4x4L}
 use Rattle.samples.specs.Marks.{permittedNxN}
 use Rattle.samples.specs.Near.{near}
 use Rattle.macroblock.proofs.Predicted.{predicted}

@@ -3,9 +3,10 @@ use mathlib.Core.Path.{_≡_, refl, ap}
 use Prim.Native.Nat.{ℕ, _+_, _*_, _/_, _%_, _-_, _≤_}
 use native.Mathlib.Omega.{arith}
 use denote.Ref.{now}
-use lib.ListN.{length, getD, length-take, length-drop}
+use lib.ListN.{length, getD}
 use Rattle.laws.specs.Table.{onto}
-use Rattle.laws.proofs.Ontos.{onto-none, onto-row, onto-long}
+use Rattle.laws.proofs.Ontos.{onto-none, onto-long}
+use Rattle.samples.proofs.Lines.{fill-part}
 use borrow.Author.Needs.{needs}
 use Rattle.samples.proofs.intra_chroma.spread.Statement.{statement}
 use Rattle.samples.proofs.intra_chroma.spread.Tie as tie
@@ -19,12 +20,6 @@ abbrev μ-loop : tie.MeasureT-loop
 loop-holds : tie.Need-loop-holds Inv-loop μ-loop
 loop-holds c = (omega arith, refl, onto-none _ _)
 
-fill-requires : tie.Need-fill-requires Inv-loop μ-loop
-fill-requires c κs = simp (length-take, length-drop) (omega arith)
-
-fill-requires-2 : tie.Need-fill-requires-2 Inv-loop μ-loop
-fill-requires-2 c κs = simp (length-take, length-drop) (omega arith)
-
 loop-again : tie.Need-loop-again Inv-loop μ-loop
 loop-again c =
     let w₂ = c .before .before in
@@ -32,14 +27,10 @@ loop-again c =
     let b = w₁ .before .before .before .before in
     let y = b .loop .y in
     let d = now (b .before .before .args .d) in
-    let next : 8 * y + 4 + 4 ≡ 8 * (y + 1) = omega arith in
-    let e₁ =
-    onto-row (8 * y) 4 _ _ _ (b .loop .out) (w₁ .fill .last .1 .1 .0) (omega arith) (b .loop .inv .2) (w₁ .fill .ensures)
-    (λ i l. ap (λ (k : ℕ). getD d k 0) (omega arith)) in
-    let e₂ =
-    onto-row (8 * y + 4) 4 _ _ _ _ (w₂ .fill2 .last .1 .1 .0) (omega arith) e₁ (w₂ .fill2 .ensures)
-    (λ i l. ap (λ (k : ℕ). getD d k 0) (omega arith)) in
-    (omega arith, onto-long (8 * y + 4 + 4) _ _ _ (omega arith) e₂, rw (← next) e₂)
+    let next : 8 * y + 8 ≡ 8 * (y + 1) = omega arith in
+    let e₁ = fill-part (8 * y) (8 * y + 4) _ _ _ (b .loop .out) (omega arith) (omega arith) (b .loop .inv .2) (w₁ .fill .ensures) (λ i l. ap (λ (k : ℕ). getD d k 0) (omega arith)) in
+    let e₂ = fill-part (8 * y + 4) (8 * y + 8) _ _ _ _ (omega arith) (omega arith) e₁ (w₂ .fill2 .ensures) (λ i l. ap (λ (k : ℕ). getD d k 0) (omega arith)) in
+    (omega arith, onto-long (8 * y + 8) _ _ _ (omega arith) e₂, rw (← next) e₂)
 
 returns : tie.Need-returns Inv-loop μ-loop
 returns c =
@@ -59,7 +50,9 @@ spread-spec =
     (λ c. search needs)
     (λ c. search needs)
     (λ c. search needs)
-    fill-requires
+    (λ c. search needs)
+    (λ c. search needs)
+    (λ c κs. search needs)
     (λ c. search needs)
     (λ c. search needs)
     (λ c. search needs)
@@ -68,7 +61,9 @@ spread-spec =
     (λ c. search needs)
     (λ c. search needs)
     (λ c. search needs)
-    fill-requires-2
+    (λ c. search needs)
+    (λ c. search needs)
+    (λ c κs. search needs)
     (λ c. search needs)
     (λ c. search needs)
     loop-again

@@ -1,14 +1,15 @@
 -- `samples::line::across` meets its contract. After y turns the first y rows are put, each through its own part of the block. Assumes nothing.
 use mathlib.Core.Path.{_≡_, refl, sym, ap}
 use Prim.Native.Nat.{_+_, _*_, _/_, _-_, _≤_}
-use native.Mathlib.Nat.{suc-mul, zero-mul}
+use native.Mathlib.Nat.{suc-mul, zero-mul, mul-le-mul}
 use native.Mathlib.Numerals.{add-one}
 use native.Mathlib.Omega.{arith}
 use lib.Arith.{digits-div}
-use lib.ListN.{length, getD, length-take, length-drop}
+use lib.ListN.{length, getD}
 use Rattle.laws.specs.Table.{onto}
-use Rattle.laws.proofs.Digits.{mul-most, row-in}
-use Rattle.laws.proofs.Ontos.{onto-none, onto-row, onto-long}
+use Rattle.laws.proofs.Digits.{row-in}
+use Rattle.laws.proofs.Ontos.{onto-none, onto-long}
+use Rattle.samples.proofs.Lines.{fill-part}
 use borrow.Author.Needs.{needs}
 use Rattle.samples.proofs.line.across.Statement.{statement}
 use Rattle.samples.proofs.line.across.Tie as tie
@@ -29,10 +30,13 @@ inside c =
     let z = c .before .before .before .before in
     let n = z .args .n in
     let y = c .before .loop .y in
-    (omega (arith, row-in y n (omega arith), z .pre .3), omega (arith, mul-most y n 16 16 (omega arith) (omega arith)))
+    (omega (arith, row-in y n (omega arith), z .pre .3), omega (arith, mul-le-mul {n₁ = y} {m₁ = n} {n₂ = 16} {m₂ = 16} (omega arith) (omega arith)))
 
-mul-fill : tie.Need-mul-fill Inv-loop μ-loop
-mul-fill c = omega (arith, inside (c .before))
+mul-at : tie.Need-mul-at Inv-loop μ-loop
+mul-at c = omega (arith, inside c)
+
+add-fill : tie.Need-add-fill Inv-loop μ-loop
+add-fill c = omega (arith, inside (c .before))
 
 sub-fill : tie.Need-sub-fill Inv-loop μ-loop
 sub-fill c = omega (arith, inside (c .before))
@@ -43,19 +47,18 @@ part-fill-start c = omega (arith, inside (c .before))
 part-fill-end : tie.Need-part-fill-end Inv-loop μ-loop
 part-fill-end c = omega (arith, inside (c .before))
 
-fill-requires : tie.Need-fill-requires Inv-loop μ-loop
-fill-requires c κs = let h = inside (c .before .before) in simp (length-take, length-drop) (omega arith)
-
 loop-again : tie.Need-loop-again Inv-loop μ-loop
 loop-again c =
     let w = c .before .before in
     let i = w .before .before .before in
     let b = i .before in
-    let n = b .before .before .before .args .n in
+    let z = b .before .before .before in
+    let n = z .args .n in
     let y = b .loop .y in
     let h = inside i .0 in
     let m : y * n + n ≡ (y + 1) * n = rw add-one (sym (suc-mul y n)) in
-    let e = onto-row (y * n) n _ _ _ (b .loop .out) (w .fill .last .1 .1 .0) (omega arith) (b .loop .inv .2) (w .fill .ensures) (λ x l. ap (λ k. getD (b .before .before .before .args .left .now) k 0) (sym (digits-div y l))) in
+    let e = fill-part (y * n) (y * n + n) _ _ _ (b .loop .out) (omega arith) (omega arith) (b .loop .inv .2) (w .fill .ensures)
+    (λ x l. ap (λ k. getD (z .args .left .now) k 0) (sym (digits-div y {m = n} {r = x} (omega arith)))) in
     (omega arith, onto-long (y * n + n) _ _ _ (omega arith) e, rw (← m) e)
 
 returns : tie.Need-returns Inv-loop μ-loop
@@ -70,12 +73,13 @@ across-spec =
     Inv-loop
     μ-loop
     loop-holds
+    mul-at
     (λ c. search needs)
-    mul-fill
+    add-fill
     sub-fill
     part-fill-start
     part-fill-end
-    fill-requires
+    (λ c κs. search needs)
     (λ c. search needs)
     (λ c. search needs)
     loop-again

@@ -5,15 +5,16 @@ use native.Mathlib.Omega.{arith}
 use lib.ListN.{length, length-set}
 use Rattle.laws.specs.Table.{onto}
 use Rattle.laws.proofs.Ontos.{onto-none, onto-more}
+use Rattle.samples.proofs.Lines.{fill-all}
 use borrow.Author.Needs.{needs}
 use Rattle.samples.proofs.line.fill.Statement.{statement}
 use Rattle.samples.proofs.line.fill.Tie as tie
 
 abbrev Inv-loop : tie.InvT-loop
-Inv-loop v n out₀ k₀ out k = (k ≤ n) × (length out ≡ length out₀) × (out ≡ onto k (λ _. v) out₀)
+Inv-loop v out₀ k₀ k-end out k = (k ≤ length out₀) × (length out ≡ length out₀) × (out ≡ onto k (λ _. v) out₀)
 
 abbrev μ-loop : tie.MeasureT-loop
-μ-loop v n out₀ k₀ out k = n - k
+μ-loop v out₀ k₀ k-end out k = length out₀ - k
 
 loop-holds : tie.Need-loop-holds Inv-loop μ-loop
 loop-holds c = (omega arith, refl, onto-none _ _)
@@ -24,9 +25,7 @@ loop-again c =
     (omega arith, simp length-set (omega arith), onto-more (l .k) _ _ (l .out) (omega arith) (l .inv .2) refl)
 
 returns : tie.Need-returns Inv-loop μ-loop
-returns c =
-    let e : c .before .loop .k ≡ c .before .before .args .n = omega arith in
-    rw (← e) (c .before .loop .inv .2)
+returns c = fill-all (c .before .loop .k) _ _ (omega arith) (c .before .loop .inv .2)
 
 pub fill-spec : {M : Type 1} → statement M
 fill-spec =

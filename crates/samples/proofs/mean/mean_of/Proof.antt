@@ -1,31 +1,20 @@
--- `samples::mean::mean_of` meets its contract: each branch is the definition's, and a mean of bytes is a byte. Assumes nothing.
-use native.Mathlib.Omega.{arith}
-use Rattle.laws.proofs.Sums.{mean-small}
+-- `samples::mean::mean_of` meets its contract: each branch is the definition's. Assumes nothing.
 use Rattle.samples.specs.Near.{mean}
 use borrow.Author.Needs.{needs}
 use Rattle.samples.proofs.mean.mean_of.Statement.{statement}
 use Rattle.samples.proofs.mean.mean_of.Tie as tie
 
-cast-result : tie.Need-cast-result
-cast-result c = record { fits = mean-small _ _ (omega arith) (omega arith) }
-
 returns : tie.Need-returns
 unfolding mean
-returns c = rw (c .before .if1 .taken, c .if2 .taken)
-
-cast-result-2 : tie.Need-cast-result-2
-cast-result-2 c = record { fits = mean-small _ _ (omega arith) (omega arith) }
+returns c = rw (c .before .before .if1 .taken, c .before .if2 .taken) (c .byte-over .ensures)
 
 returns-2 : tie.Need-returns-2
 unfolding mean
-returns-2 c = rw (c .before .if1 .taken, c .if2 .left)
-
-cast-result-3 : tie.Need-cast-result-3
-cast-result-3 c = record { fits = mean-small _ _ (omega arith) (omega arith) }
+returns-2 c = rw (c .before .before .if1 .taken, c .before .if2 .left) (c .byte-over2 .ensures)
 
 returns-3 : tie.Need-returns-3
 unfolding mean
-returns-3 c = rw (c .before .if1 .left, c .if3 .taken)
+returns-3 c = rw (c .before .before .if1 .left, c .before .if3 .taken) (c .byte-over3 .ensures)
 
 returns-4 : tie.Need-returns-4
 unfolding mean
@@ -38,15 +27,12 @@ mean-of-spec =
     (λ c. search needs)
     (λ c. search needs)
     (λ c. search needs)
-    (λ c. search needs)
-    cast-result
+    (λ c κs. search needs)
     returns
     (λ c. search needs)
-    (λ c. search needs)
-    cast-result-2
+    (λ c κs. search needs)
     returns-2
     (λ c. search needs)
-    (λ c. search needs)
-    cast-result-3
+    (λ c κs. search needs)
     returns-3
     returns-4)

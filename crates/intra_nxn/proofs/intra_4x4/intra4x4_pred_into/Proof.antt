@@ -1,0 +1,42 @@
+-- `intra_nxn::intra_4x4::intra4x4_pred_into` meets its contract: the answer, and where it is 0, the block, drawn from the run. Assumes nothing.
+use mathlib.Core.Path.{sym, _∙_}
+use denote.Ref.{now}
+use lib.Dec.{lit≤}
+use lib.ListN.{length}
+use Rattle.laws.proofs.Answers.{refused}
+use Rattle.samples.specs.Marks.{permittedNxN}
+use Rattle.samples.proofs.Modes.{Answered, answered}
+use borrow.Author.Needs.{needs}
+use Rattle.intra_nxn.proofs.intra_4x4.intra4x4_pred_into.Statement.{statement}
+use Rattle.intra_nxn.proofs.intra_4x4.intra4x4_pred_into.Tie as tie
+
+said : (c : tie.After-pred-answer) → let a = c .before .before .before .before .before .args in
+    Answered 4 8 (length (now (a .top))) (length (now (a .left))) (length (now (a .out))) 8 (permittedNxN (a .avail-top) (a .avail-left) (a .avail-corner)) (a .mode) (c .pred-answer .result)
+said c = answered 4 8 _ _ _ 8 _ _ (c .pred-answer .ensures) (c .before .permits-nxn .ensures)
+
+returns : tie.Need-returns
+returns c = (said (c .before) .is, sym (refused _ _ _ (c .if1 .taken)))
+
+run-of-requires : tie.Need-run-of-requires
+run-of-requires c κs = let s = said (c .before) in (lit≤ tt, lit≤ tt, s .top-is (c .if1 .left), s .left-is (c .if1 .left))
+
+draw4-requires : tie.Need-draw4-requires
+draw4-requires c κs = let n = c .before .before in let s = said (n .before) in (s .known (n .if1 .left), s .out-is (n .if1 .left))
+
+returns-2 : tie.Need-returns-2
+returns-2 c =
+    let d = c .before .before in
+    let e = d .before .before in
+    (sym (e .before .if1 .left) ∙ said (e .before .before) .is, d .draw4 .ensures _ (e .run-of .ensures))
+
+pub intra4x4-pred-into-spec : {M : Type 1} → statement M
+intra4x4-pred-into-spec =
+    tie.close
+    (tie.spec
+    (λ c κs. search needs)
+    (λ c κs. search needs)
+    returns
+    run-of-requires
+    draw4-requires
+    (λ c. search needs)
+    returns-2)

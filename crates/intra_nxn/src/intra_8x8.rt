@@ -1,0 +1,176 @@
+// Intra 8x8 luma prediction (clause 8.3.2.2): every row is a piece of a line, copied as a whole.
+ghost use mathlib.Core.Path.{_≡_};
+ghost use mathlib.Core.Bool.{Bool};
+ghost use Prim.Native.Nat.{_+_, _-_, _*_, _/_, _%_, _≤_};
+ghost use lib.ListN.{length, getD, replicate};
+ghost use Rattle.laws.specs.Answer.{written};
+ghost use Rattle.laws.specs.Table.{blockOf, onto};
+ghost use Rattle.samples.specs.Marks.{permittedNxN, modeAnswer, predAnswer};
+ghost use Rattle.samples.specs.Near.{Near, near};
+ghost use Rattle.intra_nxn.specs.IntraNxN.{predNxN, pred8x8L};
+ghost use Rattle.intra_nxn.specs.inner.Run.{Run, Reach, slid};
+use super::filter::filtered_of;
+use super::lines::down_line;
+use super::lines::left_lines;
+use super::lines::right_lines;
+use super::lines::threes;
+use super::lines::up_line;
+use super::run::dc_of;
+use super::run::run_of;
+use samples::line::fill;
+use samples::marks::permits_nxn;
+use samples::marks::pred_answer;
+
+// The answer of a call and its block in raster order, zeros where the call is refused.
+pub struct Pred8x8 {
+    pub answer: u32,
+    pub block: [u8; 64],
+}
+
+// The 8x8 block of a mode, from the marks and the samples of above, left and corner, which are filtered first.
+pub fn intra8x8_pred(
+    mode: u8,
+    avail_top: bool,
+    avail_left: bool,
+    avail_corner: bool,
+    top: &[u8; 16],
+    left: &[u8; 8],
+    corner: u8,
+) -> Pred8x8
+    ensures answer { λ r. ⌜ r .answer ≡ modeAnswer 8 (permittedNxN «avail_top» «avail_left» «avail_corner») mode ⌝ }
+    ensures block { λ r. ⌜ r .block ≡ written (r .answer) (replicate 64 0)
+        (blockOf 8 (pred8x8L mode «avail_top» «avail_left» «avail_corner» (near (now (top .entry)) (now (left .entry)) corner))) ⌝ }
+{
+    let mut block = [0u8; 64];
+    let answer = intra8x8_pred_into(
+        mode,
+        avail_top,
+        avail_left,
+        avail_corner,
+        top,
+        left,
+        corner,
+        &mut block,
+    );
+    Pred8x8 { answer, block }
+}
+
+// The same over lists, the block put into lent memory.
+pub fn intra8x8_pred_into(
+    mode: u8,
+    avail_top: bool,
+    avail_left: bool,
+    avail_corner: bool,
+    top: &[u8],
+    left: &[u8],
+    corner: u8,
+    out: &mut [u8],
+) -> u32
+    ensures answer { λ r. ⌜ r ≡ predAnswer 8 16 (length (now (top .entry))) (length (now (left .entry))) (length (now (out .entry)))
+        8 (permittedNxN «avail_top» «avail_left» «avail_corner») mode ⌝ }
+    ensures lent { λ r. ⌜ now (out .exit) ≡ written r (now (out .entry))
+        (blockOf 8 (pred8x8L mode «avail_top» «avail_left» «avail_corner» (near (now (top .entry)) (now (left .entry)) corner))) ⌝ }
+{
+    let permitted = permits_nxn(mode, avail_top, avail_left, avail_corner);
+    let answer = pred_answer(8, 16, top.len(), left.len(), out.len(), mode, 8, permitted);
+    if answer != 0 {
+        return answer;
+    }
+    let raw = run_of(8, top, left, corner);
+    let e = filtered_of(&raw, avail_top, avail_left, avail_corner);
+    draw8(mode, avail_top, avail_left, &e, out);
+    0
+}
+
+// The 8x8 block of a mode, from the run.
+fn draw8(mode: u8, above: bool, left: bool, e: &[u8; 81], out: &mut [u8])
+    requires { ⌜ (mode ≤ 8) × (length (now out) ≡ 64) ⌝ }
+    ensures { λ _. ⌜ ((p : Near) → Run 8 p (now (e .entry)) → now (out .exit) ≡ blockOf 8 (predNxN 8 mode above left p)) ⌝ }
+{
+    if mode < 1 {
+        slide(e, 64, e, 64, 0, 0, out);
+        return;
+    }
+    if mode < 2 {
+        beside8(e, out);
+        return;
+    }
+    if mode < 3 {
+        fill(dc_of(8, e, above, left), out);
+        return;
+    }
+    slant8(mode, e, out);
+}
+
+// The modes from 3 on, from the means of the run.
+fn slant8(mode: u8, e: &[u8; 81], out: &mut [u8])
+    requires { ⌜ (3 ≤ mode) × (mode ≤ 8) × (length (now out) ≡ 64) ⌝ }
+    ensures { λ _. ⌜ ((p : Near) (above left : Bool) → Run 8 p (now (e .entry)) → now (out .exit) ≡ blockOf 8 (predNxN 8 mode above left p)) ⌝ }
+{
+    if mode < 5 {
+        let line = threes(e);
+        if mode < 4 {
+            slide(&line, 11, &line, 12, 2, 0, out);
+            return;
+        }
+        slide(&line, 9, &line, 8, 0, 2, out);
+        return;
+    }
+    if mode < 6 {
+        let line = right_lines(e);
+        slide(&line, 3, &line, 19, 0, 1, out);
+        return;
+    }
+    if mode < 7 {
+        let line = down_line(e);
+        slide(&line, 14, &line, 12, 0, 4, out);
+        return;
+    }
+    if mode < 8 {
+        let line = left_lines(e);
+        slide(&line, 0, &line, 16, 1, 0, out);
+        return;
+    }
+    let line = up_line(e);
+    slide(&line, 0, &line, 2, 4, 0, out);
+}
+
+// Eight rows, each a window of a line: row 2z is of `even` and row 2z + 1 of `odd`. The first two start at a and b, and each two after them `up` places
+// further on or `back` places back.
+fn slide(even: &[u8], a: usize, odd: &[u8], b: usize, up: usize, back: usize, out: &mut [u8])
+    requires { ⌜ Reach (now even) a up back × Reach (now odd) b up back × (64 ≤ length (now out)) ⌝ }
+    ensures { λ _. ⌜ now (out .exit)
+        ≡ onto 64 (λ k. slid (now (even .entry)) a (now (odd .entry)) b up back (k % 8) (k / 8)) (now (out .entry)) ⌝ }
+{
+    for z in 0..4 {
+        window(even, moved(a, up, back, z), &mut out[16 * z..]);
+        window(odd, moved(b, up, back, z), &mut out[16 * z + 8..]);
+    }
+}
+
+fn moved(at: usize, up: usize, back: usize, z: usize) -> usize
+    requires { ⌜ (z ≤ 3) × (3 * back ≤ at) × (at + 3 * up ≤ 73) ⌝ }
+    ensures { λ r. ⌜ (r ≡ at + up * z - back * z) × (r ≤ at + 3 * up) ⌝ }
+{
+    at + up * z - back * z
+}
+
+// Eight samples of a line, from `at` on.
+fn window(line: &[u8], at: usize, row: &mut [u8])
+    requires { ⌜ (at + 8 ≤ length (now line)) × (8 ≤ length (now row)) ⌝ }
+    ensures { λ _. ⌜ now (row .exit) ≡ onto 8 (λ i. getD (now (line .entry)) (at + i) 0) (now (row .entry)) ⌝ }
+{
+    for i in 0..8 {
+        row[i] = line[at + i];
+    }
+}
+
+// Eight rows, each its sample to the left.
+fn beside8(e: &[u8; 81], out: &mut [u8])
+    requires { ⌜ 64 ≤ length (now out) ⌝ }
+    ensures { λ _. ⌜ now (out .exit) ≡ onto 64 (λ k. getD (now (e .entry)) (62 - k / 8) 0) (now (out .entry)) ⌝ }
+{
+    for y in 0..8 {
+        fill(e[62 - y], &mut out[8 * y..8 * y + 8]);
+    }
+}

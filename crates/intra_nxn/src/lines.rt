@@ -1,0 +1,98 @@
+// The lines of means whose windows are the rows of an 8x8 block in the modes from 3 on (clauses 8.3.2.2.5 to 8.3.2.2.10). Each mode makes its own, so
+// that the compiled code takes no mean that the mode does not show.
+ghost use mathlib.Core.Path.{_≡_};
+ghost use mathlib.Core.Bool.{cond};
+ghost use Prim.Native.Nat.{_+_, _-_, _*_, _<_};
+ghost use lib.Dec.{ltb};
+ghost use lib.ListN.{getD};
+ghost use Rattle.intra_nxn.specs.inner.Run.{Line, Twin, meanRound, meanFrom, pairs};
+use super::run::mean2;
+use super::run::mean3;
+
+// The diagonals: the means of three all along the run.
+pub(crate) fn threes(e: &[u8; 81]) -> [u8; 32]
+    ensures { λ r. ⌜ Line 26 (meanRound (now (e .entry))) r ⌝ }
+{
+    let mut line = [0u8; 32];
+    for k in 0..26 {
+        line[k] = mean_round(e, k);
+    }
+    line
+}
+
+// Vertical right: every other mean of three along the left side, then along the row above the means of two in even rows and of three in odd ones. The
+// line of the even rows stands at 0 and that of the odd ones at 16.
+pub(crate) fn right_lines(e: &[u8; 81]) -> [u8; 32]
+    ensures { λ r. ⌜ Twin 11 (λ j. cond (ltb j 3) (meanRound (now (e .entry)) (4 + 2 * j)) (meanFrom (now (e .entry)) (6 + j)))
+        (λ j. cond (ltb j 3) (meanRound (now (e .entry)) (3 + 2 * j)) (meanRound (now (e .entry)) (6 + j))) r ⌝ }
+{
+    let mut line = [0u8; 32];
+    for j in 0..3 {
+        line[j] = mean_round(e, 4 + 2 * j);
+        line[16 + j] = mean_round(e, 3 + 2 * j);
+    }
+    for j in 3..11 {
+        line[j] = mean_from(e, 6 + j);
+        line[16 + j] = mean_round(e, 6 + j);
+    }
+    line
+}
+
+// Horizontal down: the means of two and of three in turn up the left side, then those of three along the row above.
+pub(crate) fn down_line(e: &[u8; 81]) -> [u8; 32]
+    ensures { λ r. ⌜ Line 22 (pairs 16 (λ i. meanFrom (now (e .entry)) (1 + i)) (λ i. meanRound (now (e .entry)) (2 + i))
+        (λ j. meanRound (now (e .entry)) (j - 6))) r ⌝ }
+{
+    let mut line = [0u8; 32];
+    for i in 0..8 {
+        line[2 * i] = mean_from(e, 1 + i);
+        line[2 * i + 1] = mean_round(e, 2 + i);
+    }
+    for j in 16..22 {
+        line[j] = mean_round(e, j - 6);
+    }
+    line
+}
+
+// Vertical left: along the row above the means of two in even rows, at 0, and of three in odd ones, at 16.
+pub(crate) fn left_lines(e: &[u8; 81]) -> [u8; 32]
+    ensures { λ r. ⌜ Twin 11 (λ j. meanFrom (now (e .entry)) (10 + j)) (λ j. meanRound (now (e .entry)) (11 + j)) r ⌝ }
+{
+    let mut line = [0u8; 32];
+    for j in 0..11 {
+        line[j] = mean_from(e, 10 + j);
+        line[16 + j] = mean_round(e, 11 + j);
+    }
+    line
+}
+
+// Horizontal up: the means of two and of three in turn down the left side, then its last sample.
+pub(crate) fn up_line(e: &[u8; 81]) -> [u8; 32]
+    ensures { λ r. ⌜ Line 22 (pairs 14 (λ i. meanFrom (now (e .entry)) (7 - i)) (λ i. meanRound (now (e .entry)) (7 - i))
+        (λ _. getD (now (e .entry)) 55 0)) r ⌝ }
+{
+    let mut line = [0u8; 32];
+    for i in 0..7 {
+        line[2 * i] = mean_from(e, 7 - i);
+        line[2 * i + 1] = mean_round(e, 7 - i);
+    }
+    for j in 14..22 {
+        line[j] = e[55];
+    }
+    line
+}
+
+// The mean of three round place 54 + k of the run, and that of two from there on.
+fn mean_round(e: &[u8; 81], k: usize) -> u8
+    requires { ⌜ k < 26 ⌝ }
+    ensures { λ r. ⌜ r ≡ meanRound (now (e .entry)) k ⌝ }
+{
+    mean3(e[53 + k], e[54 + k], e[55 + k])
+}
+
+fn mean_from(e: &[u8; 81], k: usize) -> u8
+    requires { ⌜ k < 26 ⌝ }
+    ensures { λ r. ⌜ r ≡ meanFrom (now (e .entry)) k ⌝ }
+{
+    mean2(e[54 + k], e[55 + k])
+}
