@@ -11,8 +11,7 @@ use lib.Dec.{leb, eqb}
 use lib.IntN.{ℤ}
 use lib.ListN.{length}
 use Rattle.laws.specs.Answer.{_unless_, answer, written}
-use Rattle.laws.proofs.Answers.{holds, put}
-use Rattle.laws.proofs.Tests.{and-of}
+use Rattle.laws.proofs.Answers.{put}
 use Rattle.residual.specs.Nnz.{blkIdx}
 use Rattle.residual.specs.Reconstruct.{putSquare, sumIn, intoRoom}
 use Rattle.residual.proofs.Rooms.{room-of}
@@ -28,13 +27,17 @@ last-row q s Y Z n F = omega (arith, F .within, add-mul (Y * q) (q - 1) s)
 
 module _ (m s Y Z po ps off r : ℕ) (pred p p′ : List ℕ) (res : List ℤ) (few : m ≤ 4) (F : Fits (4 * m) s Y Z (length p)) (long : length res ≡ 4 * m * (4 * m))
     (room : po + (4 * m - 1) * ps + 4 * m ≤ length pred) (narrow : ps ≤ 16) (at-off : off ≡ Y * (4 * m) * s + Z * (4 * m))
-    (answered : r ≡ answer (2 unless (leb m 4 && eqb (length res) (4 * m * (4 * m)) && intoRoom (4 * m) (length pred) po ps (length p) off s) ∷ []))
+    (answered : r ≡ answer (2 unless (leb 1 m && leb m 4) ∷ 2 unless eqb (length res) (4 * m * (4 * m)) ∷ 2 unless intoRoom (4 * m) (length pred) po ps (length p) off s ∷ []))
     (left : p′ ≡ written r p (putSquare (4 * m) off s (sumIn (4 * m) res pred po ps) p)) where
   taken : r ≡ 0
   taken =
       answered
-      ∙ holds 2 [] (and-of (and-of (le-leb m 4 few) (eq-eqb (length res) (4 * m * (4 * m)) long))
-      (room-of (4 * m) (length pred) po ps (length p) off s (omega arith) (omega (arith, F .wide)) (F .short) room (omega (arith, last-row (4 * m) s Y Z (length p) F))))
+      ∙ rw (
+        le-leb 1 m (omega (arith, F .some)),
+        le-leb m 4 few,
+        eq-eqb (length res) (4 * m * (4 * m)) long,
+        room-of (4 * m) (length pred) po ps (length p) off s (omega arith) (omega (arith, F .wide)) (F .short) room (omega (arith, last-row (4 * m) s Y Z (length p) F)),
+      )
 
   pub put-into : (u : ℕ → ℕ → ℕ) → ((x y : ℕ) → x < 4 * m → y < 4 * m → sumIn (4 * m) res pred po ps x y ≡ u x y) → p′ ≡ putBlock (4 * m) s Y Z u p
   put-into u e =

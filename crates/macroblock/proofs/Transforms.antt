@@ -1,7 +1,7 @@
 -- Residuals where a macroblock's numbers stood: all of them transformed, and those from a block on. Assumes nothing.
 use mathlib.Core.Path.{_≡_, refl, sym, ap, ap₂, _∙_, subst}
 use mathlib.Core.Logic.{_≢_}
-use mathlib.Core.Bool.{true, false}
+use mathlib.Core.Bool.{Bool, true, false}
 use mathlib.Core.List.{List, [], _∷_, _++_}
 use Prim.Native.Nat.{ℕ, zero, suc, _+_, _*_, _-_, _/_, _%_, _<_, _≤_}
 use native.Mathlib.Decide.{decLt}
@@ -10,12 +10,11 @@ use borrow.Author.Tests.{eq-eqb}
 use borrow.Rule.Slice.PartMut.{putMid, midOf, postOf}
 use lib.Dec.{eqb}
 use lib.IntN.{ℤ, pos}
-use lib.ListN.{length, take, drop, length-take, length-drop, List·getD-append}
+use lib.ListN.{length, take, drop, length-append, length-take, length-drop, List·getD-append}
 use lib.Seq.{getD-take, getD-append-add}
 use Rattle.laws.specs.Answer.{_unless_, answer}
 use Rattle.laws.specs.Range.{at}
 use Rattle.laws.specs.Table.{table}
-use Rattle.laws.proofs.Answers.{holds}
 use Rattle.laws.proofs.Tables.{length-table, getD-table, table-same}
 use Rattle.laws.proofs.Tests.{not-both, no-from, same-test, true-T, T-true}
 use Rattle.residual.specs.Inverse.{inverse4x4, inverseBlocks}
@@ -43,8 +42,16 @@ module _ (n : ℕ) (l : List ℤ) where
           ap (λ j. inRange (at l j)) (let q : k ≡ n + (k - n) = omega arith in q) ∙ ap inRange (sym (part-at (pos 0) l n (length l - n) (k - n) (omega arith)))
           ∙ all-at (midOf n (length l - n) l) (k - n) f
 
-  pub front-out : allInRange (take n l) ≡ false → allInRange l ≡ false
+  front-out : allInRange (take n l) ≡ false → allInRange l ≡ false
   front-out e = no-from (allInRange l) front-in-range (λ f. not-both f e)
+
+  -- what the answer for the front says of the whole list
+  pub front-answer : {r : ℕ} → r ≡ answer (8 unless allInRange (take n l) ∷ []) → ¬ (r ≡ 0) → r ≡ answer (8 unless allInRange l ∷ [])
+  front-answer {r} e z = go (allInRange (take n l)) refl
+    where
+      go : (t : Bool) → allInRange (take n l) ≡ t → r ≡ answer (8 unless allInRange l ∷ [])
+      go true t = absurd (z (e ∙ rw t))
+      go false t = e ∙ rw (t, front-out t)
 
   pub rest-decides : allInRange (take n l) ≡ true → allInRange (midOf n (length l - n) l) ≡ allInRange l
   rest-decides e =
@@ -75,31 +82,38 @@ part-blocks l n first b x y h room =
     (table-same 16 _ _ (λ i hi. part-at (pos 0) l (16 * first) n (16 * (b - first) + i) (omega arith)
     ∙ ap (at l) (let e : 16 * first + (16 * (b - first) + i) ≡ 16 * b + i = omega arith in e)))
 
--- the part from block 16 on, transformed and put back
-pub rest-transformed : (l ys : List ℤ) → length l ≡ 384 → ys ≡ inverseBlocks (midOf 256 (length l - 256) l) → Transformed 16 l (putMid 256 (length l - 256) l ys)
-rest-transformed l ys long e = record {
-  before = λ i h. List·getD-append (take 256 l) (ys ++ postOf 256 k l) (pos 0) i (omega (arith, front)) ∙ getD-take 256 l i (pos 0) (omega arith);
-  after = λ b x y low h hx hy.
-      let j : ℕ = 16 * (b - 16) + (4 * y + x) in
-      let at-j : 16 * b + (4 * y + x) ≡ length (take 256 l) + j = omega (arith, front) in
-      ap (at (putMid 256 k l ys)) at-j ∙ getD-append-add (take 256 l) (ys ++ postOf 256 k l) j (pos 0)
-      ∙ List·getD-append ys (postOf 256 k l) (pos 0) j (omega (arith, rest))
-      ∙ ap (λ t. at t j) e
-      ∙ blocks-at (midOf 256 k l) (b - 16) x y (omega (arith, middle)) hx hy
-      ∙ part-blocks l k 16 b x y low (omega arith);
-}
-  where
-    k : ℕ
-    k = length l - 256
+pub kept-long : (l out m : List ℤ) → length l ≡ 384 → length out ≡ 384 → m ≡ take 256 l ++ drop 256 out → length m ≡ 384
+kept-long l out m long room first = ap length first ∙ simp (length-append, length-take, length-drop) (omega arith)
 
-    front : length (take 256 l) ≡ 256
-    front = length-take 256 l ∙ omega arith
+-- the first 256 numbers as they are, and the part from block 16 on transformed, each put through its own part of `out`
+module _ (l out m ys : List ℤ) (long : length l ≡ 384) (room : length out ≡ 384) (first : m ≡ take 256 l ++ drop 256 out) (e : ys ≡ inverseBlocks (midOf 256 (length l - 256) l)) where
+  front : length (take 256 l) ≡ 256
+  front = length-take 256 l ∙ omega arith
 
-    middle : length (midOf 256 (length l - 256) l) ≡ 128
-    middle = length-take (length l - 256) (drop 256 l) ∙ omega (arith, length-drop 256 l)
+  as-was : (i : ℕ) → i < 256 → at m i ≡ at l i
+  as-was i h = ap (λ t. at t i) first ∙ List·getD-append (take 256 l) (drop 256 out) (pos 0) i (omega (arith, front)) ∙ getD-take 256 l i (pos 0) h
 
-    rest : length ys ≡ 128
-    rest = ap length e ∙ length-table (pos 0) (length (midOf 256 (length l - 256) l)) _ ∙ middle
+  rest : length ys ≡ 128
+  rest = ap length e ∙ length-table (pos 0) (length (midOf 256 (length l - 256) l)) _ ∙ length-take (length l - 256) (drop 256 l) ∙ omega (arith, length-drop 256 l)
+
+  pub rest-transformed : Transformed 16 l (putMid 256 (length m - 256) m ys)
+  rest-transformed = record {
+    before = λ i h. List·getD-append (take 256 m) (ys ++ postOf 256 k m) (pos 0) i (omega (arith, head)) ∙ getD-take 256 m i (pos 0) (omega arith) ∙ as-was i (omega arith);
+    after = λ b x y low h hx hy.
+        let j : ℕ = 16 * (b - 16) + (4 * y + x) in
+        let at-j : 16 * b + (4 * y + x) ≡ length (take 256 m) + j = omega (arith, head) in
+        ap (at (putMid 256 k m ys)) at-j ∙ getD-append-add (take 256 m) (ys ++ postOf 256 k m) j (pos 0)
+        ∙ List·getD-append ys (postOf 256 k m) (pos 0) j (omega (arith, rest))
+        ∙ ap (λ t. at t j) e
+        ∙ blocks-at (midOf 256 (length l - 256) l) (b - 16) x y (omega (arith, length-take (length l - 256) (drop 256 l), length-drop 256 l)) hx hy
+        ∙ part-blocks l (length l - 256) 16 b x y low (omega arith);
+  }
+    where
+      k : ℕ
+      k = length m - 256
+
+      head : length (take 256 m) ≡ 256
+      head = length-take 256 m ∙ omega (arith, kept-long l out m long room first)
 
 -- ---- by kind
 pub kind-one : {l l′ : List ℤ} (kind : ℕ) → kind ≡ 1 → Transformed 16 l l′ → Transformed (firstFor kind) l l′
@@ -110,6 +124,10 @@ kind-other zero n t = t
 kind-other (suc zero) n t = absurd (n refl)
 kind-other (suc (suc _)) n t = t
 
--- a call that is given whole blocks answers for its numbers alone
-pub answers-numbers : (l : List ℤ) (r : ℕ) → length l % 16 ≡ 0 → r ≡ answer (2 unless eqb (length l % 16) 0 ∷ 8 unless allInRange l ∷ []) → r ≡ answer (8 unless allInRange l ∷ [])
-answers-numbers l r h e = e ∙ holds 2 (8 unless allInRange l ∷ []) (eq-eqb (length l % 16) 0 h)
+-- calls that are given lists of the right lengths answer for their numbers alone
+pub blocks-answer : (l : List ℤ) (n r : ℕ) → length l % 16 ≡ 0 → length l ≡ n → r ≡ answer (2 unless eqb (length l % 16) 0 ∷ 2 unless eqb (length l) n ∷ 8 unless allInRange l ∷ [])
+    → r ≡ answer (8 unless allInRange l ∷ [])
+blocks-answer l n r h g e = e ∙ rw (eq-eqb (length l % 16) 0 h, eq-eqb (length l) n g)
+
+pub numbers-answer : (l : List ℤ) (n r : ℕ) → length l ≡ n → r ≡ answer (2 unless eqb (length l) n ∷ 8 unless allInRange l ∷ []) → r ≡ answer (8 unless allInRange l ∷ [])
+numbers-answer l n r g e = e ∙ rw (eq-eqb (length l) n g)

@@ -73,7 +73,7 @@ pub fn rebuild(
     if answer != 0 {
         return answer;
     }
-    let mut residuals = [0i32; 384];
+    let mut residuals = [0i16; 384];
     let answer = residuals_of(kind, numbers, &mut residuals);
     if answer != 0 {
         return answer;

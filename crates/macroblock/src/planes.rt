@@ -33,7 +33,7 @@ fn block_4x4(
     y: usize,
     marks: Marks,
     modes: &[u8],
-    residuals: &[i32],
+    residuals: &[i16],
     k: usize,
 )
     requires { ⌜ Fits 16 stride y x (length (now plane)) × Beside 16 stride y x (marks .b) (marks .a) (marks .d) (marks .c) × (k < 16) ⌝ }
@@ -56,7 +56,7 @@ fn block_8x8(
     y: usize,
     marks: Marks,
     modes: &[u8],
-    residuals: &[i32],
+    residuals: &[i16],
     k: usize,
 )
     requires { ⌜ Fits 16 stride y x (length (now plane)) × Beside 16 stride y x (marks .b) (marks .a) (marks .d) (marks .c) × (k < 4) ⌝ }
@@ -79,7 +79,7 @@ fn block_16x16(
     y: usize,
     marks: Marks,
     modes: &[u8],
-    residuals: &[i32],
+    residuals: &[i16],
 )
     requires { ⌜ Fits 16 stride y x (length (now plane)) × Beside 16 stride y x (marks .b) (marks .a) (marks .d) (marks .c) ⌝ }
     requires { ⌜ (modeFine 2 (now modes) (marksOf marks) 0 ≡ 0) × (length (now modes) ≡ 16) × (length (now residuals) ≡ 384) ⌝ }
@@ -105,7 +105,7 @@ fn luma_block(
     marks: Marks,
     kind: u8,
     modes: &[u8],
-    residuals: &[i32],
+    residuals: &[i16],
     k: usize,
 )
     requires { ⌜ Fits 16 stride y x (length (now plane)) × Beside 16 stride y x (marks .b) (marks .a) (marks .d) (marks .c) × (k < used kind) ⌝ }
@@ -131,7 +131,7 @@ pub(crate) fn luma_square(
     marks: Marks,
     kind: u8,
     modes: &[u8],
-    residuals: &[i32],
+    residuals: &[i16],
 )
     requires { ⌜ Fits 16 stride y x (length (now plane)) × Beside 16 stride y x (marks .b) (marks .a) (marks .d) (marks .c) ⌝ }
     requires { ⌜ ((k : ℕ) → k < used kind → modeFine kind (now modes) (marksOf marks) k ≡ 0) × (length (now modes) ≡ 16) × (length (now residuals) ≡ 384) ⌝ }
@@ -154,7 +154,7 @@ pub(crate) fn chroma_square(
     y: usize,
     marks: Marks,
     mode: u8,
-    residuals: &[i32],
+    residuals: &[i16],
     base: usize,
 )
     requires { ⌜ Fits 8 stride y x (length (now plane)) × Beside 8 stride y x (marks .b) (marks .a) (marks .d) (marks .c) ⌝ }

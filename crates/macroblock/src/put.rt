@@ -19,7 +19,7 @@ pub(crate) fn put_4x4(
     pred: &[u8],
     p_off: usize,
     p_stride: usize,
-    residuals: &[i32],
+    residuals: &[i16],
     b: usize,
 )
     requires { ⌜ Fits 4 stride row column (length (now plane)) × («p_off» + 3 * «p_stride» + 4 ≤ length (now pred)) × («p_stride» ≤ 16) ⌝ }
@@ -47,7 +47,7 @@ pub(crate) fn put_pieces(
     row: usize,
     column: usize,
     pred: &[u8],
-    residuals: &[i32],
+    residuals: &[i16],
     base: usize,
 )
     requires { ⌜ Fits (4 * m) stride row column (length (now plane)) × Scan m × (m ≤ 4) × (length (now pred) ≡ 4 * m * (4 * m)) ⌝ }
@@ -81,7 +81,7 @@ pub(crate) fn put_8x8(
     row: usize,
     column: usize,
     pred: &[u8],
-    residuals: &[i32],
+    residuals: &[i16],
     k: usize,
 )
     requires { ⌜ Fits 8 stride row column (length (now plane)) × (length (now pred) ≡ 64) × (k < 4) × (length (now residuals) ≡ 384) ⌝ }

@@ -6,37 +6,18 @@ ghost use Rattle.laws.specs.Answer.{_unless_, answer};
 ghost use Rattle.residual.specs.Numbers.{allInRange};
 ghost use Rattle.macroblock.specs.inner.Blocks.{Transformed, firstFor};
 
-// The residuals of a record's numbers, unless one is out of range.
-pub(crate) fn residuals_of(kind: u8, numbers: &[i32], out: &mut [i32]) -> u32
+// The residuals of a record's numbers, unless one is out of range. The luma numbers of kind 1 are residuals already.
+pub(crate) fn residuals_of(kind: u8, numbers: &[i32], out: &mut [i16]) -> u32
     requires { ⌜ (length (now numbers) ≡ 384) × (length (now out) ≡ 384) ⌝ }
     ensures { λ r. ⌜ r ≡ answer (8 unless allInRange (now (numbers .entry)) ∷ []) ⌝ }
     ensures { λ r. ⌜ (r ≡ 0 → Transformed (firstFor kind) (now (numbers .entry)) (now (out .exit))) ⌝ }
 {
-    copy(out, numbers);
-    transform(kind, out)
-}
-
-fn copy(out: &mut [i32], numbers: &[i32])
-    requires { ⌜ length (now out) ≡ length (now numbers) ⌝ }
-    ensures { λ _. ⌜ now (out .exit) ≡ now (numbers .entry) ⌝ }
-{
-    let n = numbers.len();
-    for k in 0..n {
-        out[k] = numbers[k];
-    }
-}
-
-// Transforms the numbers where they stand. The luma residuals of kind 1 come transformed.
-fn transform(kind: u8, numbers: &mut [i32]) -> u32
-    requires { ⌜ length (now numbers) ≡ 384 ⌝ }
-    ensures { λ r. ⌜ r ≡ answer (8 unless allInRange (now (numbers .entry)) ∷ []) ⌝ }
-    ensures { λ r. ⌜ (r ≡ 0 → Transformed (firstFor kind) (now (numbers .entry)) (now (numbers .exit))) ⌝ }
-{
     if kind == 1 {
-        if !residual::numbers::all_in_range(&numbers[..256]) {
-            return 8;
+        let answer = residual::numbers::narrow_all(&numbers[..256], &mut out[..256]);
+        if answer != 0 {
+            return answer;
         }
-        return residual::inverse::inverse_blocks(&mut numbers[256..]);
+        return residual::inverse::inverse_blocks(&numbers[256..], &mut out[256..]);
     }
-    residual::inverse::inverse_blocks(numbers)
+    residual::inverse::inverse_blocks(numbers, out)
 }

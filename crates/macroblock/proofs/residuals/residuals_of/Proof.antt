@@ -1,27 +1,87 @@
--- `macroblock::residuals::residuals_of` meets its contract: what is transformed is a copy of the numbers. Assumes nothing.
-use mathlib.Core.Path.{ap, subst, _∙_}
-use mathlib.Core.List.{[], _∷_}
+-- `macroblock::residuals::residuals_of` meets its contract: by kind 1 the first 256 numbers are residuals and the others are transformed, else all are.
+-- Assumes nothing.
+use mathlib.Core.Path.{_≡_, sym, ap, _∙_}
+use mathlib.Core.List.{List, [], _∷_, _++_}
+use Prim.Native.Nat.{_-_}
+use native.Mathlib.Omega.{arith}
+use lib.IntN.{ℤ}
+use lib.ListN.{length, take, drop, length-take, length-drop}
 use Rattle.laws.specs.Answer.{_unless_, answer}
+use Rattle.laws.proofs.Answers.{put, passes}
 use Rattle.residual.specs.Numbers.{allInRange}
-use Rattle.macroblock.specs.inner.Blocks.{Transformed, firstFor}
+use Rattle.macroblock.proofs.Transforms.{front-answer, rest-decides, all-transformed, kept-long, rest-transformed, kind-one, kind-other, blocks-answer, numbers-answer}
 use borrow.Author.Needs.{needs}
 use Rattle.macroblock.proofs.residuals.residuals_of.Statement.{statement}
 use Rattle.macroblock.proofs.residuals.residuals_of.Tie as tie
 
+slice-aggregate-narrow-all : tie.Need-slice-aggregate-narrow-all
+slice-aggregate-narrow-all c = let u = c .before .before in omega (arith, length-take 256 (u .args .numbers .now), u .pre .0)
+
+slice-aggregate-narrow-all-2 : tie.Need-slice-aggregate-narrow-all-2
+slice-aggregate-narrow-all-2 c = let u = c .before .before .before in omega (arith, length-take 256 (u .args .out .now), u .pre .1)
+
+-- the front's answer, and the front where it is 0
+fronted : (c : tie.After-narrow-all) → let u = c .before .before .before .before in c .narrow-all .result ≡ answer (8 unless allInRange (take 256 (u .args .numbers .now)) ∷ [])
+fronted c =
+    let u = c .before .before .before .before in
+    let l = u .args .numbers .now in
+    let o = u .args .out .now in
+    numbers-answer (take 256 l) (length (take 256 o)) _ (omega (arith, length-take 256 l, length-take 256 o, u .pre .0, u .pre .1)) (c .narrow-all .ensures .0)
+
 returns : tie.Need-returns
 returns c =
-    let t = c .before in
-    let p = t .before .before .before in
-    let a = p .before .before .args in (
-      t .transform .ensures .0 ∙ ap (λ l. answer (8 unless allInRange l ∷ [])) (p .copy .ensures),
-      λ e. subst (λ l. Transformed (firstFor (a .kind)) l (t .transform .last .1 .0)) (p .copy .ensures) (t .transform .ensures .1 e),
+    let n = c .before .before in
+    let u = n .before .before .before .before in
+    (front-answer 256 (u .args .numbers .now) (fronted n) (c .if2 .taken), λ z. absurd (c .if2 .taken z))
+
+-- the 128 numbers of chroma are whole blocks
+chroma-long : (l : List ℤ) → length l ≡ 384 → length (take (length l - 256) (drop 256 l)) ≡ 128
+chroma-long l e = length-take (length l - 256) (drop 256 l) ∙ omega (arith, length-drop 256 l)
+
+returns-2 : tie.Need-returns-2
+returns-2 c =
+    let p = c .before in
+    let z = p .before .before .before in
+    let n = z .before .before in
+    let u = n .before .before .before .before in
+    let l = u .args .numbers .now in
+    let o = u .args .out .now in
+    let long = chroma-long l (u .pre .0) in
+    let first = ap (λ t. t ++ drop 256 o) (n .narrow-all .ensures .1 ∙ put _ _ (z .if2 .left)) in (
+      blocks-answer (take (length l - 256) (drop 256 l)) _ _ (omega (arith, long)) (long ∙ sym (chroma-long (n .narrow-all .last .1 .0 ++ drop 256 o) (kept-long l o _ (u .pre .0) (u .pre .1) first))) (p .inverse-blocks .ensures .0)
+          ∙ ap (λ b. answer (8 unless b ∷ [])) (rest-decides 256 l (passes 7 (allInRange (take 256 l)) [] (sym (fronted n) ∙ z .if2 .left) .0)),
+      λ e. kind-one (u .args .kind) (omega (arith, n .before .before .before .if1 .taken)) (rest-transformed l o _ (p .inverse-blocks .last .1 .0) (u .pre .0) (u .pre .1) first (p .inverse-blocks .ensures .1 ∙ put _ _ e)),
+    )
+
+returns-3 : tie.Need-returns-3
+returns-3 c =
+    let p = c .before in
+    let d = p .before .before in
+    let u = d .before in
+    let l = u .args .numbers .now in (
+      blocks-answer l _ _ (omega (arith, u .pre .0)) (omega (arith, u .pre .0, u .pre .1)) (p .inverse-blocks2 .ensures .0),
+      λ e. kind-other (u .args .kind) (d .if1 .left) (all-transformed l (p .inverse-blocks2 .last .1 .0) (u .pre .0) (p .inverse-blocks2 .ensures .1 ∙ put _ _ e)),
     )
 
 pub residuals-of-spec : {M : Type 1} → statement M
 residuals-of-spec =
     tie.close
     (tie.spec
-    (λ c κs. search needs)
+    slice-aggregate-narrow-all
+    (λ c. search needs)
+    slice-aggregate-narrow-all-2
     (λ c κs. search needs)
     (λ c. search needs)
-    returns)
+    returns
+    (λ c. search needs)
+    (λ c. search needs)
+    (λ c. search needs)
+    (λ c. search needs)
+    (λ c. search needs)
+    (λ c. search needs)
+    (λ c κs. search needs)
+    (λ c. search needs)
+    returns-2
+    (λ c κs. search needs)
+    (λ c. search needs)
+    returns-3)
