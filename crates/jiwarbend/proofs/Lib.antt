@@ -1,2 +1,1 @@
 -- The laws that the exports' proofs share.
-pub mod Exported

@@ -139,7 +139,7 @@ pub extern "C" fn jiwarbend_luma16x16_dc(
     let beside = crate::lists::bytes16(left);
     let sample = samples::intra_16x16::luma16x16_dc(avail_top, avail_left, &above, &beside);
     let block = [sample];
-    crate::lists::leave(out, 0, &block);
+    crate::lists::put(out, &block);
     0
 }
 
@@ -166,6 +166,6 @@ pub extern "C" fn jiwarbend_chroma8x8_dc(
     let above = crate::lists::bytes8(top);
     let beside = crate::lists::bytes8(left);
     let block = samples::intra_chroma::chroma8x8_dc(avail_top, avail_left, &above, &beside);
-    crate::lists::leave(out, 0, &block);
+    crate::lists::put(out, &block);
     0
 }

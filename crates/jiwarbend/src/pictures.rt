@@ -1,13 +1,14 @@
-// Whole pictures, macroblock by macroblock. C's progress record is its two numbers, one after the other.
+// Whole pictures, macroblock by macroblock. C's progress record is its two numbers, one after the other; it is stored only where the answer is 0.
 ghost use mathlib.Core.Path.{_≡_};
 ghost use lib.ListN.{length, replicate};
 ghost use Rattle.laws.specs.Answer.{written};
-ghost use Rattle.picture.specs.Progress.{begun, startAnswer};
-ghost use Rattle.picture.specs.Rebuild.{call, lent};
-ghost use Rattle.picture.specs.Size.{sizeOk};
-ghost use Rattle.jiwarbend.specs.Pictures.{progressOf, recordOf, Rebuilds};
-use macroblock::Record;
-use picture::Progress;
+ghost use Rattle.macroblock.specs.Kinds.{recordOf};
+ghost use Rattle.maps.specs.Progress.{begun, startAnswer};
+ghost use Rattle.picture.specs.AnyOrder.{AnyOrder};
+ghost use Rattle.picture.specs.Rebuild.{call, lent, Rebuilds};
+ghost use Rattle.picture.specs.Run.{Picture};
+ghost use Rattle.jiwarbend.specs.Pictures.{progressOf};
+use maps::progress::Progress;
 
 #[no_mangle]
 pub extern "C" fn jiwarbend_start(w: u32, h: u32, done: &mut [u8], progress: &mut [u32; 2]) -> u32
@@ -19,13 +20,17 @@ pub extern "C" fn jiwarbend_start(w: u32, h: u32, done: &mut [u8], progress: &mu
         count: progress[0],
         last: progress[1],
     };
-    let s = picture::start_core(w, h, done, before);
+    let s = maps::progress::start_core(w, h, done, before);
+    if s.answer != 0 {
+        return s.answer;
+    }
     let after = s.progress;
     let both = [after.count, after.last];
     *progress = both;
-    s.answer
+    0
 }
 
+// In whatever order the macroblocks come, a finished picture is the right one, and it can always be finished.
 #[no_mangle]
 pub extern "C" fn jiwarbend_rebuild(
     w: u32,
@@ -46,30 +51,15 @@ pub extern "C" fn jiwarbend_rebuild(
     chroma_mode: u8,
     numbers: &[i32],
 ) -> u32
-    ensures { λ r. ⌜ Rebuilds (call w h x y «luma_stride» «cb_stride» «cr_stride» (now (slices .entry)) (recordOf kind (now (modes .entry)) «chroma_mode» (now (numbers .entry))))
+    ensures { λ r. ⌜ Rebuilds
+        (call w h x y «luma_stride» «cb_stride» «cr_stride» (now (slices .entry)) (recordOf kind (now (modes .entry)) «chroma_mode» (now (numbers .entry))))
         (lent (now (luma .entry)) (now (cb .entry)) (now (cr .entry)) (now (done .entry)) (progressOf (now (progress .entry))))
         r (lent (now (luma .exit)) (now (cb .exit)) (now (cr .exit)) (now (done .exit)) (progressOf (now (progress .exit)))) ⌝ }
+    ensures { λ _. ⌜ ((g : Picture) → AnyOrder g) ⌝ }
 {
-    if !sized(w, h) {
-        return 1;
-    }
-    if modes.len() != 16 {
-        return 2;
-    }
-    if numbers.len() != 384 {
-        return 2;
-    }
     let before = Progress {
         count: progress[0],
         last: progress[1],
-    };
-    let luma_modes = crate::lists::bytes16(modes);
-    let all = crate::lists::numbers384(numbers);
-    let record = Record {
-        kind,
-        modes: luma_modes,
-        chroma_mode,
-        numbers: all,
     };
     let s = picture::rebuild_core(
         w,
@@ -85,25 +75,16 @@ pub extern "C" fn jiwarbend_rebuild(
         done,
         slices,
         before,
-        record,
+        kind,
+        modes,
+        chroma_mode,
+        numbers,
     );
+    if s.answer != 0 {
+        return s.answer;
+    }
     let after = s.progress;
     let both = [after.count, after.last];
     *progress = both;
-    s.answer
-}
-
-fn sized(w: u32, h: u32) -> bool
-    ensures { λ r. ⌜ r ≡ sizeOk w h ⌝ }
-{
-    if w < 1 {
-        return false;
-    }
-    if w > 120 {
-        return false;
-    }
-    if h < 1 {
-        return false;
-    }
-    h <= 68
+    0
 }

@@ -56,7 +56,7 @@ pub extern "C" fn jiwarbend_nnz_raster_from_z(n: &[u8], out: &mut [u8]) -> u32
     }
     let z = crate::lists::bytes24(n);
     let raster = residual::nnz::nnz_raster_from_z(&z);
-    crate::lists::leave(out, 0, &raster);
+    crate::lists::put(out, &raster);
     0
 }
 

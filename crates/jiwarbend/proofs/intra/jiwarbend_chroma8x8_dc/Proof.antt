@@ -21,7 +21,7 @@ returns-4 c =
     let l = s .before .before .before in
     let t = l .before in (
       rw (eq-eqb _ _ (t .before .before .before .if1 .left), eq-eqb _ _ (t .before .before .if2 .left), eq-eqb _ _ (t .before .if3 .left)),
-      c .before .before .leave .ensures ∙ (rw (t .bytes8 .ensures, l .bytes82 .ensures) at (s .chroma8x8-dc .ensures)),
+      c .before .before .put .ensures ∙ (rw (t .bytes8 .ensures, l .bytes82 .ensures) at (s .chroma8x8-dc .ensures)),
     )
 
 pub jiwarbend-chroma8x8-dc-spec : {M : Type 1} → statement M

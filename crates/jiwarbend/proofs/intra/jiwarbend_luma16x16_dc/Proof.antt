@@ -22,7 +22,7 @@ returns-4 c =
     let l = s .before .before .before in
     let t = l .before in (
       rw (eq-eqb _ _ (t .before .before .before .if1 .left), eq-eqb _ _ (t .before .before .if2 .left), eq-eqb _ _ (t .before .if3 .left)),
-      c .before .before .leave .ensures ∙ ap (λ v. v ∷ []) (rw (t .bytes16 .ensures, l .bytes162 .ensures) at (s .luma16x16-dc .ensures)),
+      c .before .before .put .ensures ∙ ap (λ v. v ∷ []) (rw (t .bytes16 .ensures, l .bytes162 .ensures) at (s .luma16x16-dc .ensures)),
     )
 
 pub jiwarbend-luma16x16-dc-spec : {M : Type 1} → statement M

@@ -17,7 +17,7 @@ returns-3 c =
     let s = c .before .before .before .before .before in
     let d = s .before .before in (
       rw (eq-eqb _ _ (d .before .before .if1 .left), eq-eqb _ _ (d .before .if2 .left)),
-      c .before .before .leave .ensures ∙ (rw (d .bytes24 .ensures) at (s .nnz-raster-from-z .ensures)),
+      c .before .before .put .ensures ∙ (rw (d .bytes24 .ensures) at (s .nnz-raster-from-z .ensures)),
     )
 
 pub jiwarbend-nnz-raster-from-z-spec : {M : Type 1} → statement M
