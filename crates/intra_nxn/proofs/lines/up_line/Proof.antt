@@ -1,7 +1,6 @@
 -- `intra_nxn::lines::up_line` meets its contract. After i turns the first 2i places are the means, and the others are still the last sample of the side.
 -- Assumes nothing.
 use mathlib.Core.Path.{_≡_, refl, _∙_}
-use mathlib.Core.List.{List}
 use Prim.Native.Nat.{ℕ, _+_, _*_, _-_, _≤_, _<_}
 use native.Mathlib.Omega.{arith}
 use lib.ListN.{getD, set, getD-replicate}
