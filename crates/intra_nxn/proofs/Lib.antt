@@ -1,7 +1,7 @@
--- The laws about this crate's definitions.
-pub mod Filters
+-- The laws about this crate's definitions. Those that are `pub` are for other crates and for a reader; the others serve the proofs here.
+mod Filters
 pub mod LumaPromise
-pub mod Places
+mod Places
 pub mod Related
-pub mod Runs
-pub mod Slides
+mod Runs
+mod Slides

@@ -32,7 +32,7 @@ module _ (n : ℕ) (p : Near) (t : List ℕ) (low : 2 ≤ n) (high : n ≤ 8) (r
   on-left i b e h = ap (λ (z : ℕ). getD t z 0) (omega arith) ∙ run .left b h
 
   module _ (means : Means n t) where
-    -- the mean of three around place 54 + k and of two from it on, at any number that is theirs
+    -- the mean of three round place 54 + k and of two from it on, at any number that is theirs
     three : (i k : ℕ) {u v w : ℕ} → i ≡ 2 * k → 9 ≤ k + n → k ≤ 9 + 2 * n → getD t (53 + k) 0 ≡ u → getD t (54 + k) 0 ≡ v → getD t (55 + k) 0 ≡ w
         → getD t i 0 ≡ mean3 u v w
     three i k e a b hu hv hw = ap (λ (z : ℕ). getD t z 0) e ∙ means .three k a b ∙ rw (hu, hv, hw)

@@ -32,21 +32,21 @@ twice-first : (a b : ℕ) → mean3 a a b ≡ (3 * a + b + 2) / 4
 twice-first a b = omega arith
 
 -- Horizontal_Down is Vertical_Right with rows and columns exchanged
-turned : (p : Near) (x y : ℕ) → horizontalDown p x y ≡ verticalRight (λ i j. p j i) y x
+pub turned : (p : Near) (x y : ℕ) → horizontalDown p x y ≡ verticalRight (λ i j. p j i) y x
 unfolding horizontalDown verticalRight
 turned p x y = rw (turn (p 0 1) (p 0 0) (p 1 0))
 
 module _ (R : ℕ → ℕ → Type 0) (means : Through R) where
-  by-13 : {a b a′ b′ : ℕ} → R a a′ → R b b′ → R ((a + 3 * b + 2) / 4) ((a′ + 3 * b′ + 2) / 4)
+  pub by-13 : {a b a′ b′ : ℕ} → R a a′ → R b b′ → R ((a + 3 * b + 2) / 4) ((a′ + 3 * b′ + 2) / 4)
   by-13 {a} {b} {a′} {b′} r s = rw (← twice-last a b, ← twice-last a′ b′) (means .by-3 r s s)
 
-  by-31 : {a b a′ b′ : ℕ} → R a a′ → R b b′ → R ((3 * a + b + 2) / 4) ((3 * a′ + b′ + 2) / 4)
+  pub by-31 : {a b a′ b′ : ℕ} → R a a′ → R b b′ → R ((3 * a + b + 2) / 4) ((3 * a′ + b′ + 2) / 4)
   by-31 {a} {b} {a′} {b′} r s = rw (← twice-first a b, ← twice-first a′ b′) (means .by-3 r r s)
 
-  -- ---- one side, the other, and all that is around
+  -- ---- one side, the other, and both with the corner
   module _ (n : ℕ) (p q : Near) (two : 2 ≤ n) (x y : ℕ) (hx : x < n) (hy : y < n) where
     module _ (up : (i : ℕ) → 1 ≤ i → i ≤ 2 * n → R (p i 0) (q i 0)) where
-      in-downLeft : R (downLeft n p x y) (downLeft n q x y)
+      pub in-downLeft : R (downLeft n p x y) (downLeft n q x y)
       unfolding downLeft
       in-downLeft =
           choose-both R (eqb x (n - 1) && eqb y (n - 1)) _ _ _ _
@@ -58,7 +58,7 @@ module _ (R : ℕ → ℕ → Type 0) (means : Through R) where
           (and-some (eqb x (n - 1)) (eqb y (n - 1)) h) in
           means .by-3 (up _ (omega arith) (omega arith)) (up _ (omega arith) (omega arith)) (up _ (omega arith) (omega arith)))
 
-      in-verticalLeft : R (verticalLeft p x y) (verticalLeft q x y)
+      pub in-verticalLeft : R (verticalLeft p x y) (verticalLeft q x y)
       unfolding verticalLeft
       in-verticalLeft =
           choose-both R (eqb (y % 2) 0) _ _ _ _
@@ -67,7 +67,7 @@ module _ (R : ℕ → ℕ → Type 0) (means : Through R) where
           let odd : y % 2 ≡ 0 → ⊥ = eqb-false _ _ h in
           means .by-3 (up _ (omega arith) (omega arith)) (up _ (omega arith) (omega arith)) (up _ (omega arith) (omega arith)))
 
-    in-horizontalUp : ((j : ℕ) → 1 ≤ j → j ≤ n → R (p 0 j) (q 0 j)) → R (horizontalUp n p x y) (horizontalUp n q x y)
+    pub in-horizontalUp : ((j : ℕ) → 1 ≤ j → j ≤ n → R (p 0 j) (q 0 j)) → R (horizontalUp n p x y) (horizontalUp n q x y)
     unfolding horizontalUp
     in-horizontalUp down =
         choose-both R (ltb (x + 2 * y) (2 * n - 3)) _ _ _ _
@@ -83,7 +83,7 @@ module _ (R : ℕ → ℕ → Type 0) (means : Through R) where
         (λ f. down n (omega arith) (omega arith)))
 
     module _ (up : (i : ℕ) → i ≤ n → R (p i 0) (q i 0)) (down : (j : ℕ) → j ≤ n → R (p 0 j) (q 0 j)) where
-      in-downRight : R (downRight p x y) (downRight q x y)
+      pub in-downRight : R (downRight p x y) (downRight q x y)
       unfolding downRight
       in-downRight =
           choose-both R (ltb y x) _ _ _ _
@@ -92,7 +92,7 @@ module _ (R : ℕ → ℕ → Type 0) (means : Through R) where
           (λ h. let l : x < y = ltb-true _ _ h in means .by-3 (down _ (omega arith)) (down _ (omega arith)) (down _ (omega arith)))
           (λ h. means .by-3 (up 1 (omega arith)) (up 0 (omega arith)) (down 1 (omega arith))))
 
-      in-verticalRight : R (verticalRight p x y) (verticalRight q x y)
+      pub in-verticalRight : R (verticalRight p x y) (verticalRight q x y)
       unfolding verticalRight
       in-verticalRight =
           choose-both R (leb y (2 * x)) _ _ _ _
@@ -105,7 +105,7 @@ module _ (R : ℕ → ℕ → Type 0) (means : Through R) where
           (λ f. means .by-3 (down 1 (omega arith)) (down 0 (omega arith)) (up 1 (omega arith)))
           (λ f. means .by-3 (down _ (omega arith)) (down _ (omega arith)) (down _ (omega arith))))
 
-  in-horizontalDown : (n : ℕ) (p q : Near) → 2 ≤ n → (x y : ℕ) → x < n → y < n → ((i : ℕ) → i ≤ n → R (p i 0) (q i 0)) → ((j : ℕ) → j ≤ n → R (p 0 j) (q 0 j))
+  pub in-horizontalDown : (n : ℕ) (p q : Near) → 2 ≤ n → (x y : ℕ) → x < n → y < n → ((i : ℕ) → i ≤ n → R (p i 0) (q i 0)) → ((j : ℕ) → j ≤ n → R (p 0 j) (q 0 j))
       → R (horizontalDown p x y) (horizontalDown q x y)
   in-horizontalDown n p q two x y hx hy up down =
       rw (turned p x y, turned q x y) (in-verticalRight n (λ i j. p j i) (λ i j. q j i) two y x hy hx down up)
@@ -124,9 +124,9 @@ module _ (R : ℕ → ℕ → Type 0) (means : Through R) where
       (λ h0. choose-both R (eqb mode 1) _ _ _ _ (λ h. w .on-left (rw (eqb-true mode 1 h) at ok) (y + 1) (omega arith) (omega arith))
       (λ h1. choose-both R (eqb mode 2) _ _ _ _ (λ h. at-dc (eqb-true mode 2 h))
       (λ h2. choose-both R (eqb mode 3) _ _ _ _ (λ h. in-downLeft n p q two x y hx hy (w .on-above (rw (eqb-true mode 3 h) at ok)))
-      (λ h3. choose-both R (eqb mode 4) _ _ _ _ (λ h. around (rw (eqb-true mode 4 h) at ok) (in-downRight n p q two x y hx hy))
-      (λ h4. choose-both R (eqb mode 5) _ _ _ _ (λ h. around (rw (eqb-true mode 5 h) at ok) (in-verticalRight n p q two x y hx hy))
-      (λ h5. choose-both R (eqb mode 6) _ _ _ _ (λ h. around (rw (eqb-true mode 6 h) at ok) (in-horizontalDown n p q two x y hx hy))
+      (λ h3. choose-both R (eqb mode 4) _ _ _ _ (λ h. with-all (rw (eqb-true mode 4 h) at ok) (in-downRight n p q two x y hx hy))
+      (λ h4. choose-both R (eqb mode 5) _ _ _ _ (λ h. with-all (rw (eqb-true mode 5 h) at ok) (in-verticalRight n p q two x y hx hy))
+      (λ h5. choose-both R (eqb mode 6) _ _ _ _ (λ h. with-all (rw (eqb-true mode 6 h) at ok) (in-horizontalDown n p q two x y hx hy))
       (λ h6. choose-both R (eqb mode 7) _ _ _ _ (λ h. in-verticalLeft n p q two x y hx hy (w .on-above (rw (eqb-true mode 7 h) at ok)))
       (λ h7. in-horizontalUp n p q two x y hx hy (w .on-left (only-8 (eqb mode 8) (rw (h0, h3, h7, h1, h2, h4, h5, h6) at ok)))))))))))
     where
@@ -134,16 +134,16 @@ module _ (R : ℕ → ℕ → Type 0) (means : Through R) where
       only-8 true e = e
       only-8 false e = absurd (not-both e refl)
 
-      around : {u v : ℕ} → a && l && c ≡ true
+      with-all : {u v : ℕ} → a && l && c ≡ true
           → (((i : ℕ) → i ≤ n → R (p i 0) (q i 0)) → ((j : ℕ) → j ≤ n → R (p 0 j) (q 0 j)) → R u v) → R u v
-      around t f =
+      with-all t f =
           let corner = w .on-corner (and-right (a && l) c t) in
           let sides = and-left (a && l) c t in
           f (from-0 n (λ i. p i 0) (λ i. q i 0) corner (λ i s h. w .on-above (and-left a l sides) i s (omega arith)))
           (from-0 n (λ j. p 0 j) (λ j. q 0 j) corner (w .on-left (and-right a l sides)))
 
   -- ---- the filter
-  in-side : (last : ℕ) (c : Bool) (s t : ℕ → ℕ) → 2 ≤ last → (c ≡ true → R (s 0) (t 0)) → ((i : ℕ) → 1 ≤ i → i ≤ last → R (s i) (t i))
+  pub in-side : (last : ℕ) (c : Bool) (s t : ℕ → ℕ) → 2 ≤ last → (c ≡ true → R (s 0) (t 0)) → ((i : ℕ) → 1 ≤ i → i ≤ last → R (s i) (t i))
       → (i : ℕ) → 1 ≤ i → i ≤ last → R (filteredSide last c s i) (filteredSide last c t i)
   unfolding filteredSide
   in-side last c s t two corner side i some h =
@@ -159,7 +159,7 @@ module _ (R : ℕ → ℕ → Type 0) (means : Through R) where
       let less : i ≡ last → ⊥ = eqb-false i last u in
       means .by-3 (side (i - 1) (omega arith) (omega arith)) (side i some h) (side (i + 1) (omega arith) (omega arith))))
 
-  in-corner : (n : ℕ) (a l c : Bool) (p q : Near) → 2 ≤ n → Open R n a l c p q → c ≡ true → R (filteredCorner a l p) (filteredCorner a l q)
+  pub in-corner : (n : ℕ) (a l c : Bool) (p q : Near) → 2 ≤ n → Open R n a l c p q → c ≡ true → R (filteredCorner a l p) (filteredCorner a l q)
   unfolding filteredCorner
   in-corner n true true c p q two w hc = means .by-3 (w .on-above refl 1 (omega arith) (omega arith)) (w .on-corner hc) (w .on-left refl 1 (omega arith) (omega arith))
   in-corner n true false c p q two w hc = by-31 (w .on-corner hc) (w .on-above refl 1 (omega arith) (omega arith))

@@ -4,6 +4,7 @@ use mathlib.Core.Path.{_≡_, refl, sym, ap, _∙_}
 use mathlib.Core.Bool.{cond}
 use mathlib.Core.List.{List}
 use Prim.Native.Nat.{ℕ, _+_, _-_, _*_, _/_, _%_, _≤_, _<_}
+use native.Mathlib.Decide.{decLt}
 use native.Mathlib.Omega.{arith}
 use lib.Dec.{eqb, ltb}
 use lib.ListN.{getD, length, set, drop, length-set}
@@ -46,6 +47,15 @@ pair-more m f g h i l {u} {v} small long q hu hv =
 pub past-more : (m : ℕ) (f g h : ℕ → ℕ) (j : ℕ) (l : List ℕ) {v : ℕ} → m ≤ j → j < 32 → Line j (pairs m f g h) l → v ≡ h j → Line (j + 1) (pairs m f g h) (set l j v)
 unfolding pairs
 past-more m f g h j l far small q e = line-more j (pairs m f g h) l small q (rw (le-ltb j m far) e)
+
+-- or all of those past them, where they were there from the start
+pub past-all : (m n : ℕ) (f g h : ℕ → ℕ) (l : List ℕ) → Line m (pairs m f g h) l → ((j : ℕ) → m ≤ j → j < n → getD l j 0 ≡ h j) → Line n (pairs m f g h) l
+unfolding pairs
+past-all m n f g h l q rest = record { size = q .size; is = λ j b. go j b (decLt j m) }
+  where
+    go : (j : ℕ) → j < n → Dec (j < m) → getD l j 0 ≡ pairs m f g h j
+    go j b (yes s) = q .is j s
+    go j b (no s) = rest j (omega arith) b ∙ rw (le-ltb j m (omega arith))
 
 -- one place of either of two lines
 pub twin-none : (f g : ℕ → ℕ) (l : List ℕ) → length l ≡ 32 → Twin 0 f g l

@@ -71,13 +71,10 @@ pub(crate) fn up_line(e: &[u8; 81]) -> [u8; 32]
     ensures { λ r. ⌜ Line 22 (pairs 14 (λ i. meanFrom (now (e .entry)) (7 - i)) (λ i. meanRound (now (e .entry)) (7 - i))
         (λ _. getD (now (e .entry)) 55 0)) r ⌝ }
 {
-    let mut line = [0u8; 32];
+    let mut line = [e[55]; 32];
     for i in 0..7 {
         line[2 * i] = mean_from(e, 7 - i);
         line[2 * i + 1] = mean_round(e, 7 - i);
-    }
-    for j in 14..22 {
-        line[j] = e[55];
     }
     line
 }

@@ -1,13 +1,13 @@
 // Intra prediction from samples that are handed as lists (clause 8.3).
 ghost use mathlib.Core.Path.{_≡_};
 ghost use mathlib.Core.List.{[], _∷_};
-ghost use lib.Dec.{leb};
+ghost use lib.ListN.{length};
 ghost use Rattle.laws.specs.Answer.{_unless_, answer, written};
 ghost use Rattle.laws.specs.Table.{blockOf};
 ghost use Rattle.samples.specs.Intra16x16.{predL};
 ghost use Rattle.samples.specs.IntraChroma.{chromaDc, predC};
 ghost use Rattle.intra_nxn.specs.IntraNxN.{pred4x4L, pred8x8L};
-ghost use Rattle.samples.specs.Marks.{permittedNxN, permitted16x16, permittedChroma};
+ghost use Rattle.samples.specs.Marks.{permittedNxN, permitted16x16, permittedChroma, predAnswer};
 ghost use Rattle.samples.specs.Near.{near, dc};
 ghost use Rattle.jiwarbend.specs.Exports.{_has_};
 
@@ -22,8 +22,10 @@ pub extern "C" fn jiwarbend_intra4x4_pred(
     corner: u8,
     out: &mut [u8],
 ) -> u32
-    ensures { λ r. ⌜ r ≡ answer (2 unless now (top .entry) has 8 ∷ 2 unless now (left .entry) has 4 ∷ 2 unless now (out .entry) has 16 ∷ 6 unless leb mode 8 ∷ 7 unless permittedNxN «avail_top» «avail_left» «avail_corner» mode ∷ []) ⌝ }
-    ensures { λ r. ⌜ now (out .exit) ≡ written r (now (out .entry)) (blockOf 4 (pred4x4L mode «avail_top» «avail_left» «avail_corner» (near (now (top .entry)) (now (left .entry)) corner))) ⌝ }
+    ensures { λ r. ⌜ r ≡ predAnswer 4 8 (length (now (top .entry))) (length (now (left .entry))) (length (now (out .entry)))
+        8 (permittedNxN «avail_top» «avail_left» «avail_corner») mode ⌝ }
+    ensures { λ r. ⌜ now (out .exit) ≡ written r (now (out .entry))
+        (blockOf 4 (pred4x4L mode «avail_top» «avail_left» «avail_corner» (near (now (top .entry)) (now (left .entry)) corner))) ⌝ }
 {
     intra_nxn::intra_4x4::intra4x4_pred_into(
         mode,
@@ -48,8 +50,10 @@ pub extern "C" fn jiwarbend_intra8x8_pred(
     corner: u8,
     out: &mut [u8],
 ) -> u32
-    ensures { λ r. ⌜ r ≡ answer (2 unless now (top .entry) has 16 ∷ 2 unless now (left .entry) has 8 ∷ 2 unless now (out .entry) has 64 ∷ 6 unless leb mode 8 ∷ 7 unless permittedNxN «avail_top» «avail_left» «avail_corner» mode ∷ []) ⌝ }
-    ensures { λ r. ⌜ now (out .exit) ≡ written r (now (out .entry)) (blockOf 8 (pred8x8L mode «avail_top» «avail_left» «avail_corner» (near (now (top .entry)) (now (left .entry)) corner))) ⌝ }
+    ensures { λ r. ⌜ r ≡ predAnswer 8 16 (length (now (top .entry))) (length (now (left .entry))) (length (now (out .entry)))
+        8 (permittedNxN «avail_top» «avail_left» «avail_corner») mode ⌝ }
+    ensures { λ r. ⌜ now (out .exit) ≡ written r (now (out .entry))
+        (blockOf 8 (pred8x8L mode «avail_top» «avail_left» «avail_corner» (near (now (top .entry)) (now (left .entry)) corner))) ⌝ }
 {
     intra_nxn::intra_8x8::intra8x8_pred_into(
         mode,
@@ -74,8 +78,10 @@ pub extern "C" fn jiwarbend_luma16x16_pred(
     corner: u8,
     out: &mut [u8],
 ) -> u32
-    ensures { λ r. ⌜ r ≡ answer (2 unless now (top .entry) has 16 ∷ 2 unless now (left .entry) has 16 ∷ 2 unless now (out .entry) has 256 ∷ 6 unless leb mode 3 ∷ 7 unless permitted16x16 «avail_top» «avail_left» «avail_corner» mode ∷ []) ⌝ }
-    ensures { λ r. ⌜ now (out .exit) ≡ written r (now (out .entry)) (blockOf 16 (predL mode «avail_top» «avail_left» (near (now (top .entry)) (now (left .entry)) corner))) ⌝ }
+    ensures { λ r. ⌜ r ≡ predAnswer 16 16 (length (now (top .entry))) (length (now (left .entry))) (length (now (out .entry)))
+        3 (permitted16x16 «avail_top» «avail_left» «avail_corner») mode ⌝ }
+    ensures { λ r. ⌜ now (out .exit) ≡ written r (now (out .entry))
+        (blockOf 16 (predL mode «avail_top» «avail_left» (near (now (top .entry)) (now (left .entry)) corner))) ⌝ }
 {
     samples::intra_16x16::luma16x16_pred_into(
         mode,
@@ -100,8 +106,10 @@ pub extern "C" fn jiwarbend_chroma8x8_pred(
     corner: u8,
     out: &mut [u8],
 ) -> u32
-    ensures { λ r. ⌜ r ≡ answer (2 unless now (top .entry) has 8 ∷ 2 unless now (left .entry) has 8 ∷ 2 unless now (out .entry) has 64 ∷ 6 unless leb mode 3 ∷ 7 unless permittedChroma «avail_top» «avail_left» «avail_corner» mode ∷ []) ⌝ }
-    ensures { λ r. ⌜ now (out .exit) ≡ written r (now (out .entry)) (blockOf 8 (predC mode «avail_top» «avail_left» (near (now (top .entry)) (now (left .entry)) corner))) ⌝ }
+    ensures { λ r. ⌜ r ≡ predAnswer 8 8 (length (now (top .entry))) (length (now (left .entry))) (length (now (out .entry)))
+        3 (permittedChroma «avail_top» «avail_left» «avail_corner») mode ⌝ }
+    ensures { λ r. ⌜ now (out .exit) ≡ written r (now (out .entry))
+        (blockOf 8 (predC mode «avail_top» «avail_left» (near (now (top .entry)) (now (left .entry)) corner))) ⌝ }
 {
     samples::intra_chroma::chroma8x8_pred_into(
         mode,

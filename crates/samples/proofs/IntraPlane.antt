@@ -19,7 +19,7 @@ use Rattle.samples.specs.IntraPlane.{roomRound}
 use Rattle.samples.specs.Marks.{permitted16x16, permittedChroma}
 use Rattle.samples.specs.Near.{Near, near, nearIn, vertical, Agree}
 use Rattle.samples.specs.PlaneMode.{plane}
-use Rattle.samples.specs.inner.Room.{Room}
+use Rattle.samples.specs.inner.Surroundings.{Surroundings}
 use Rattle.samples.proofs.Near.{near-above, near-left}
 use Rattle.samples.proofs.Whole.{Drawn, drawn}
 use Rattle.samples.proofs.WholePromise.{whole-promise}
@@ -39,7 +39,7 @@ room-last n len base stride hn hs hb = go (leb ((n - 1) * stride) (len - base)) 
         rw (lt-leb (base + (n - 1) * stride) len (omega arith)) (sym (and-false (leb (base + n) (len + stride))))
 
 module _ (n len base stride : ℕ) where
-  pub room-yes : roomRound n len base stride ≡ true → Room n len base stride
+  pub room-yes : roomRound n len base stride ≡ true → Surroundings n len base stride
   unfolding roomRound
   room-yes h =
       let a = ltb 0 stride in
@@ -53,14 +53,14 @@ module _ (n len base stride : ℕ) where
       record { some = ltb-true _ _ (h₁ .0); most = leb-true _ _ (h₁ .1); corner = ltb-true _ _ (h₂ .1); row = leb-true _ _ (h₃ .1); column = leb-true _ _ (h₄ .1) }
 
   -- each sample of the left column lies in the buffer
-  pub column-in : Room n len base stride → (i : ℕ) → i < n → base - 1 + i * stride < len
+  pub column-in : Surroundings n len base stride → (i : ℕ) → i < n → base - 1 + i * stride < len
   column-in r i h =
       let last : i ≤ n - 1 = omega arith in
       let least : i * stride ≤ (n - 1) * stride = mul-le-mul-right stride last in
       omega (arith, r .corner, r .column)
 
 -- the row above as it is read is the plane's
-module _ (n base stride : ℕ) (rec : List ℕ) (room : Room n (length rec) base stride) where
+module _ (n base stride : ℕ) (rec : List ℕ) (room : Surroundings n (length rec) base stride) where
   -- the part of the plane from the row above on
   abbrev pub row : List ℕ
   row = take (length rec - (base - stride)) (drop (base - stride) rec)
@@ -78,18 +78,18 @@ module _ (n base stride : ℕ) (rec : List ℕ) (room : Room n (length rec) base
   down-in old pred one e same = drawn n old pred _ e (λ k _. above-in (k % n) (mod-lt k one) ∙ same (k % n) (k / n))
 
 -- and with it the left column and the corner
-module _ (n base stride : ℕ) (rec column : List ℕ) (room : Room n (length rec) base stride)
+module _ (n base stride : ℕ) (rec column : List ℕ) (room : Surroundings n (length rec) base stride)
     (read : column ≡ onto n (λ i. getD rec (base - 1 + i * stride) 0) (replicate 16 0)) where
-  abbrev at : Near
-  at = nearIn rec (base - stride - 1) stride
+  abbrev nearby : Near
+  nearby = nearIn rec (base - stride - 1) stride
 
-  pub near-in : Agree n n true true true (near (row n base stride rec room) column (getD rec (base - stride - 1) 0)) at
+  pub near-in : Agree n n true true true (near (row n base stride rec room) column (getD rec (base - stride - 1) 0)) nearby
   unfolding near nearIn
   near-in =
       record {
         on-above = λ _ i one h.
             sym (near-above (row n base stride rec room) column _ (i - 1) i (omega arith)) ∙ above-in n base stride rec room (i - 1) (omega arith)
-            ∙ ap (λ (k : ℕ). at k 0) (omega arith);
+            ∙ ap (λ (k : ℕ). nearby k 0) (omega arith);
         on-left = λ _ j one h.
             sym (near-left (row n base stride rec room) column _ (j - 1) j (omega arith))
             ∙ onto-at n _ _ column 0 (j - 1) read (omega arith)

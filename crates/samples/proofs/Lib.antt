@@ -1,9 +1,9 @@
--- The laws about this crate's definitions.
+-- The laws about this crate's definitions. Those that are `pub` are for other crates and for a reader; the others serve the proofs here.
 pub mod Dc
-pub mod IntraPlane
+mod IntraPlane
 pub mod Lines
 pub mod Modes
 pub mod Near
-pub mod PlaneMode
-pub mod Whole
+mod PlaneMode
+mod Whole
 pub mod WholePromise

@@ -39,7 +39,7 @@ slope-is m s h small e b =
     (t, subst (Within 32640) (sym t) w)
 
 -- a slope reads its 2m + 1 samples, and a plane those of its two lines
-pub slope-same : (m : ℕ) (s t : ℕ → ℕ) → 1 ≤ m → ((i : ℕ) → i ≤ 2 * m → s i ≡ t i) → slope m s ≡ slope m t
+slope-same : (m : ℕ) (s t : ℕ → ℕ) → 1 ≤ m → ((i : ℕ) → i ≤ 2 * m → s i ≡ t i) → slope m s ≡ slope m t
 unfolding slope
 slope-same m s t one h =
     sumZ-same m _ _ (λ i b. ap₂ (λ (u v : ℕ). pos (i + 1) *ℤ (pos u -ℤ pos v)) (h (m + 1 + i) (omega arith)) (h (m - 1 - i) (omega arith)))

@@ -32,10 +32,10 @@ module _ (n : ℕ) (old : List ℕ) (pred : ℕ → ℕ → ℕ) where
   drawn f e h = e ∙ onto-same (n * n) f _ old h
 
 module _ (n : ℕ) (top left : List ℕ) (corner : ℕ) (old : List ℕ) (pred : ℕ → ℕ → ℕ) where
-  pub down-is : {out : List ℕ} → out ≡ onto (n * n) (λ k. getD top (k % n) 0) old → ((x y : ℕ) → vertical (near top left corner) x y ≡ pred x y) → Drawn n old pred out
+  down-is : {out : List ℕ} → out ≡ onto (n * n) (λ k. getD top (k % n) 0) old → ((x y : ℕ) → vertical (near top left corner) x y ≡ pred x y) → Drawn n old pred out
   down-is e h = drawn n old pred _ e (λ k _. near-above top left corner (k % n) _ refl ∙ h (k % n) (k / n))
 
-  pub across-is : {out : List ℕ} → out ≡ onto (n * n) (λ k. getD left (k / n) 0) old → ((x y : ℕ) → horizontal (near top left corner) x y ≡ pred x y) → Drawn n old pred out
+  across-is : {out : List ℕ} → out ≡ onto (n * n) (λ k. getD left (k / n) 0) old → ((x y : ℕ) → horizontal (near top left corner) x y ≡ pred x y) → Drawn n old pred out
   across-is e h = drawn n old pred _ e (λ k _. near-left top left corner (k / n) _ refl ∙ h (k % n) (k / n))
 
   pub ramp-is : (m k : ℕ) {a b c : ℤ} {out : List ℕ} → Sloped m k (near top left corner) a b c

@@ -1,6 +1,6 @@
 -- The predictors that read their neighbours from a plane: whether corner, above row and left column lie in it.
 use mathlib.Core.Bool.{Bool, _&&_}
-use mathlib.Core.List.{List, [], _∷_}
+use mathlib.Core.List.{[], _∷_}
 use Prim.Native.Nat.{ℕ, _+_, _-_, _*_}
 use lib.Dec.{ltb, leb}
 use Rattle.laws.specs.Answer.{_unless_, answer}

@@ -1,9 +1,10 @@
 -- Which modes the marks of above, left and corner permit (clauses 8.3.1.2, 8.3.2.2, 8.3.3 and 8.3.4: a mode is used only where its samples are
 -- marked as available), and the numbers of the predictors' answers.
+use mathlib.Core.Path.{_≡_}
 use mathlib.Core.Bool.{Bool, true, false, cond, _&&_, _||_}
-use mathlib.Core.List.{List, [], _∷_}
+use mathlib.Core.List.{[], _∷_}
 use Prim.Native.Nat.{ℕ, _*_, _/_, _%_, _^_}
-use lib.Dec.{eqb, leb}
+use lib.Dec.{eqb, ltb, leb}
 use Rattle.laws.specs.Answer.{_unless_, answer}
 use Rattle.laws.specs.Table.{sumOf}
 
@@ -33,6 +34,10 @@ bit s m = s / 2 ^ m % 2
 -- a set of modes below n as one number: bit m for mode m, other bits 0
 unfoldable pub modeSet : ℕ → (ℕ → Bool) → ℕ
 modeSet n permitted = sumOf n (λ m. cond (permitted m) (2 ^ m) 0)
+
+-- what such a number says: bit m is 1 exactly where m is below n and in the set
+pub record BitOfSet : Type 0 where
+  pub says : (n : ℕ) (permitted : ℕ → Bool) (m : ℕ) → bit (modeSet n permitted) m ≡ cond (ltb m n && permitted m) 1 0
 
 -- a predictor's answer: 6 for a mode above the last, 7 for one that is not permitted
 abbrev pub modeAnswer : ℕ → (ℕ → Bool) → ℕ → ℕ

@@ -1,4 +1,4 @@
 -- What only the contracts of private functions speak of.
 pub mod Line
 pub mod Plane
-pub mod Room
+pub mod Surroundings

@@ -11,7 +11,7 @@ ghost use Rattle.samples.specs.Intra16x16.{predL};
 ghost use Rattle.samples.specs.IntraChroma.{predC};
 ghost use Rattle.samples.specs.IntraPlane.{roomRound, planeAnswer};
 ghost use Rattle.samples.specs.Near.{nearIn};
-ghost use Rattle.samples.specs.inner.Room.{Room};
+ghost use Rattle.samples.specs.inner.Surroundings.{Surroundings};
 use super::intra_16x16::predict_16x16;
 use super::line::down;
 use super::line::side_of;
@@ -59,7 +59,7 @@ pub fn chroma8x8_pred(mode: u8, pred: &mut [u8], rec: &[u8], base: usize, stride
 }
 
 fn luma_at(mode: u8, pred: &mut [u8], rec: &[u8], base: usize, stride: usize)
-    requires { ⌜ (mode ≤ 3) × (256 ≤ length (now pred)) × Room 16 (length (now rec)) base stride ⌝ }
+    requires { ⌜ (mode ≤ 3) × (256 ≤ length (now pred)) × Surroundings 16 (length (now rec)) base stride ⌝ }
     ensures { λ _. ⌜ now (pred .exit)
         ≡ blockOf 16 (predL mode true true (nearIn (now (rec .entry)) (base - stride - 1) stride)) ++ drop 256 (now (pred .entry)) ⌝ }
 {
@@ -73,7 +73,7 @@ fn luma_at(mode: u8, pred: &mut [u8], rec: &[u8], base: usize, stride: usize)
 }
 
 fn chroma_at(mode: u8, pred: &mut [u8], rec: &[u8], base: usize, stride: usize)
-    requires { ⌜ (2 ≤ mode) × (mode ≤ 3) × (64 ≤ length (now pred)) × Room 8 (length (now rec)) base stride ⌝ }
+    requires { ⌜ (2 ≤ mode) × (mode ≤ 3) × (64 ≤ length (now pred)) × Surroundings 8 (length (now rec)) base stride ⌝ }
     ensures { λ _. ⌜ now (pred .exit)
         ≡ blockOf 8 (predC mode true true (nearIn (now (rec .entry)) (base - stride - 1) stride)) ++ drop 64 (now (pred .entry)) ⌝ }
 {

@@ -1,54 +1,41 @@
--- `intra_nxn::lines::up_line` meets its contract. The first loop puts two places a turn, the second one. Assumes nothing.
-use mathlib.Core.Path.{_≡_, refl}
-use mathlib.Core.List.{List}
-use Prim.Native.Nat.{ℕ, _*_, _-_, _≤_}
+-- `intra_nxn::lines::up_line` meets its contract. After i turns the first 2i places are the means, and the others are still the last sample of the side.
+-- Assumes nothing.
+use mathlib.Core.Path.{_≡_, refl, _∙_}
+use Prim.Native.Nat.{ℕ, _+_, _*_, _-_, _≤_, _<_}
 use native.Mathlib.Omega.{arith}
-use lib.ListN.{getD}
+use lib.ListN.{getD, set, getD-replicate}
+use lib.Seq.{getD-set-other}
 use Rattle.intra_nxn.specs.inner.Run.{Line, meanRound, meanFrom, pairs}
-use Rattle.intra_nxn.proofs.Slides.{line-none, pair-more, past-more}
+use Rattle.intra_nxn.proofs.Slides.{line-none, pair-more, past-all}
 use borrow.Author.Needs.{needs}
 use Rattle.intra_nxn.proofs.lines.up_line.Statement.{statement}
 use Rattle.intra_nxn.proofs.lines.up_line.Tie as tie
 
-abbrev Put : List ℕ → ℕ → List ℕ → Type 0
-Put e k line = Line k (pairs 14 (λ i. meanFrom e (7 - i)) (λ i. meanRound e (7 - i)) (λ _. getD e 55 0)) line
-
 abbrev Inv-loop : tie.InvT-loop
-Inv-loop e line₀ i₀ line i = (i ≤ 7) × Put e (2 * i) line
+Inv-loop e line₀ i₀ line i =
+    (i ≤ 7) × Line (2 * i) (pairs 14 (λ k. meanFrom e (7 - k)) (λ k. meanRound e (7 - k)) (λ _. getD e 55 0)) line
+    × ((j : ℕ) → 2 * i ≤ j → j < 22 → getD line j 0 ≡ getD e 55 0)
 
 abbrev μ-loop : tie.MeasureT-loop
 μ-loop e line₀ i₀ line i = 7 - i
 
-abbrev Inv-loop2 : tie.InvT-loop2
-Inv-loop2 e line₀ j₀ line j = (14 ≤ j) × (j ≤ 22) × Put e j line
+loop-holds : tie.Need-loop-holds Inv-loop μ-loop
+loop-holds c = (omega arith, line-none _ _ refl, λ j a b. getD-replicate 32 j _ 0 (omega arith))
 
-abbrev μ-loop2 : tie.MeasureT-loop2
-μ-loop2 e line₀ j₀ line j = 22 - j
-
-loop-holds : tie.Need-loop-holds Inv-loop μ-loop Inv-loop2 μ-loop2
-loop-holds c = (omega arith, line-none _ _ refl)
-
-loop-again : tie.Need-loop-again Inv-loop μ-loop Inv-loop2 μ-loop2
+loop-again : tie.Need-loop-again Inv-loop μ-loop
 loop-again c =
-    let l = c .before .before .before .loop in
-    (omega arith, pair-more 14 _ _ _ (l .i) (l .line) (omega arith) (omega arith) (l .inv .1) (c .before .mean-from .ensures) (c .mean-round .ensures))
+    let l = c .before .before .before .loop in (
+      omega arith,
+      pair-more 14 _ _ _ (l .i) (l .line) (omega arith) (omega arith) (l .inv .1) (c .before .mean-from .ensures) (c .mean-round .ensures),
+      λ j a b. getD-set-other (set (l .line) (2 * l .i) _) (2 * l .i + 1) j _ 0 (omega arith) ∙ getD-set-other (l .line) (2 * l .i) j _ 0 (omega arith)
+          ∙ l .inv .2 j (omega arith) b,
+    )
 
-loop2-holds : tie.Need-loop2-holds Inv-loop μ-loop Inv-loop2 μ-loop2
-loop2-holds c =
+returns : tie.Need-returns Inv-loop μ-loop
+returns c =
     let l = c .before .loop in
     let e : l .i ≡ 7 = omega arith in
-    (omega arith, omega arith, rw e at (l .inv .1))
-
-loop2-again : tie.Need-loop2-again Inv-loop μ-loop Inv-loop2 μ-loop2
-loop2-again c =
-    let l = c .before .before .loop2 in
-    (omega arith, omega arith, past-more 14 _ _ _ (l .j) (l .line) (omega arith) (omega arith) (l .inv .2) refl)
-
-returns : tie.Need-returns Inv-loop μ-loop Inv-loop2 μ-loop2
-returns c =
-    let l = c .before .loop2 in
-    let e : l .j ≡ 22 = omega arith in
-    rw e at (l .inv .2)
+    past-all 14 22 _ _ _ (l .line) (rw e at (l .inv .1)) (λ j a b. l .inv .2 j (omega arith) b)
 
 pub up-line-spec : {M : Type 1} → statement M
 up-line-spec =
@@ -56,8 +43,7 @@ up-line-spec =
     (tie.spec
     Inv-loop
     μ-loop
-    Inv-loop2
-    μ-loop2
+    (λ c. search needs)
     loop-holds
     (λ c. search needs)
     (λ c κs. search needs)
@@ -71,10 +57,4 @@ up-line-spec =
     (λ c. search needs)
     (λ c. search needs)
     loop-again
-    loop2-holds
-    (λ c. search needs)
-    (λ c. search needs)
-    (λ c. search needs)
-    (λ c. search needs)
-    loop2-again
     returns)

@@ -1,5 +1,4 @@
 -- `samples::marks::pred_answer` meets its contract: its tests are the rules' in their order. Assumes nothing.
-use Prim.Native.Nat.{_*_}
 use native.Mathlib.Nat.{mul-le-mul}
 use native.Mathlib.Omega.{arith}
 use borrow.Author.Tests.{eq-eqb, ne-eqb}

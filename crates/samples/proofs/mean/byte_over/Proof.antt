@@ -1,6 +1,5 @@
 -- `samples::mean::byte_over` meets its contract: a number over 0 is 0. Assumes nothing.
-use mathlib.Core.Path.{_≡_, ap, sym, _∙_}
-use Prim.Native.Nat.{ℕ, _/_, min}
+use mathlib.Core.Path.{_≡_}
 use native.Mathlib.Nat.{div-zero}
 use native.Mathlib.Omega.{arith}
 use borrow.Author.Needs.{needs}

@@ -1,5 +1,5 @@
 -- `samples::plane_mode::plane_over` meets its contract: the ramp of the neighbourhood's numbers is its plane. Assumes nothing.
-use mathlib.Core.Path.{_≡_, refl}
+use mathlib.Core.Path.{refl}
 use Prim.Native.Nat.{_*_}
 use native.Mathlib.Omega.{arith}
 use denote.Ref.{now}
