@@ -12,10 +12,10 @@ use Rattle.order.proofs.AnyOrder.{done-agrees, ok-steps}
 use Rattle.order.proofs.Driver.{Sound, done-is-raster, whole-is-raster, padding-kept, ok-kept, counted, count-full, play-append, sound-run, first-taken, permitted-taken, rest-taken, rest-full, raster-taken}
 use Rattle.order.proofs.Raster.{raster-permitted, raster-done, build-raster}
 use Rattle.order.proofs.Undone.{some-first}
-use Rattle.maps.specs.Progress.{begun, startAnswer}
+use Rattle.maps.specs.Progress.{startAnswer}
 use Rattle.picture.specs.Planes.{Plane}
 use Rattle.picture.specs.Rebuild.{Call, Lent, here}
-use Rattle.picture.specs.Run.{Picture, totalOf, offer, AllAcceptable, Waits, Awaits, Lends, Planes, decoded, Place, sampleAt, Region, InPicture, driver, startedAt, started, run, Own, rest, Event, passed, callsOf, StartsRefused}
+use Rattle.picture.specs.Run.{Picture, totalOf, offer, AllAcceptable, Waits, Awaits, Lends, Planes, decoded, Place, sampleAt, Region, InPicture, driver, started, run, Own, rest, Event, passed, callsOf, StartsRefused}
 use Rattle.picture.specs.Run.Event.{offers, starts}
 use Rattle.picture.specs.AnyOrder.{AnyOrder}
 use Rattle.picture.proofs.OnePicture.{view, fair, spares, step, offer-here, carries, Good, begins, planes-kept, laws, told, acceptable}

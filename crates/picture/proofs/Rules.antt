@@ -7,7 +7,7 @@ use mathlib.Core.List.{List, [], _∷_, _++_}
 use Prim.Native.Nat.{ℕ, _<_}
 use lib.ListN.{length}
 use borrow.Author.Tests.{not-true}
-use Rattle.laws.specs.Answer.{Check, _unless_, answer}
+use Rattle.laws.specs.Answer.{Check, answer}
 use Rattle.laws.proofs.Answers.{holds, broken, passes-by, answer-without, answer-later, answer-earlier, earlier-hold}
 use Rattle.laws.proofs.Tests.{no-from}
 use Rattle.order.specs.Order.{Done}
@@ -62,27 +62,30 @@ module _ (c : Call) (s : Lent) where
   abbrev pub readyNow : Bool
   readyNow = allSettled (c .width) (c .x) (c .y) (waitsFor c) (s .done)
 
+  abbrev fifth : Check
+  fifth = readyRule (c .width) (c .x) (c .y) (waitsFor c) (s .done)
+
   abbrev last : List Check
   last = knownRule (c .mb) ∷ permittedRule (marks c) (c .mb) ∷ numbersRule (c .mb) ∷ []
 
-  in-order : rules c s ≡ earlierRules c s ++ (5 unless readyNow ∷ last)
+  in-order : rules c s ≡ earlierRules c s ++ (fifth ∷ last)
   unfolding rules earlierRules
   in-order = refl
 
-  late : earlier c s ≡ 0 → answerTo c s ≡ answer (5 unless readyNow ∷ last)
+  late : earlier c s ≡ 0 → answerTo c s ≡ answer (fifth ∷ last)
   unfolding earlierRules
-  late e = rw in-order (answer-later (earlierRules c s) (5 unless readyNow ∷ last) tt e)
+  late e = rw in-order (answer-later (earlierRules c s) (fifth ∷ last) tt e)
 
   pub refused-by : ¬ (earlier c s ≡ 0) → answerTo c s ≡ earlier c s
-  refused-by n = rw in-order (answer-earlier (earlierRules c s) (5 unless readyNow ∷ last) n)
+  refused-by n = rw in-order (answer-earlier (earlierRules c s) (fifth ∷ last) n)
 
   -- a call that is accepted passed them, and so did one that is not ready
   pub passed-0 : answerTo c s ≡ 0 → earlier c s ≡ 0
-  passed-0 e = earlier-hold 0 (earlierRules c s) (5 unless readyNow ∷ last) (λ n. n) (rw in-order at e)
+  passed-0 e = earlier-hold 0 (earlierRules c s) (fifth ∷ last) (λ n. n) (rw in-order at e)
 
   passed-5 : answerTo c s ≡ 5 → earlier c s ≡ 0
   unfolding earlierRules
-  passed-5 e = earlier-hold 5 (earlierRules c s) (5 unless readyNow ∷ last) (λ _. answer-without 4 (earlierRules c s) tt) (rw in-order at e)
+  passed-5 e = earlier-hold 5 (earlierRules c s) (fifth ∷ last) (λ _. answer-without 4 (earlierRules c s) tt) (rw in-order at e)
 
   pub not-ready : earlier c s ≡ 0 → readyNow ≡ false → answerTo c s ≡ 5
   not-ready e f = late e ∙ broken 5 last f
