@@ -3,7 +3,7 @@ use std::path::PathBuf;
 
 fn main() {
     let here = PathBuf::from(std::env::var("CARGO_MANIFEST_DIR").unwrap());
-    let archive = std::env::var_os("JIWARBEND_ARCHIVE").map_or_else(|| here.join("../target/lib/libjiwarbend.a"), PathBuf::from);
+    let archive = std::env::var_os("JIWARBEND_ARCHIVE").map_or_else(|| here.join("../build/lib/libjiwarbend.a"), PathBuf::from);
     println!("cargo:rerun-if-env-changed=JIWARBEND_ARCHIVE");
     println!("cargo:rerun-if-changed={}", archive.display());
     let archive = archive

@@ -99,6 +99,74 @@ pub fn good_record(random: &mut Random, kind: u8, n: Near) -> Record {
     r
 }
 
+/// How many coefficients a picture has: the share of its macroblocks without any, and the share of 4x4 blocks without any in the others.
+#[derive(Clone, Copy, Debug)]
+pub struct Density {
+    pub bare_macroblocks: f64,
+    pub bare_blocks: f64,
+}
+
+impl Random {
+    fn chance(&mut self, share: f64) -> bool {
+        (self.below(1 << 20) as f64) < share * (1 << 20) as f64
+    }
+
+    /// The coefficients of a block as encoders leave them: three in four blocks have only the first, the rest up to five more near it.
+    fn few_coefficients(&mut self, block: &mut [i32]) {
+        let step = 16 * (1 + self.below(8) as i32);
+        let level = |random: &mut Random| step * (1 + random.below(3) as i32) * random.pick(&[-1, 1]);
+        block[0] = level(self);
+        if self.one_in(4) {
+            for _ in 0..1 + self.below(5) {
+                block[self.pick(&[1, 4, 5, 2, 8, 6, 9])] = level(self);
+            }
+        }
+    }
+}
+
+/// A record of this kind that is acceptable between these neighbours, with as few coefficients as real streams have.
+fn sparse_record(random: &mut Random, kind: u8, n: Near, density: Density) -> Record {
+    let mut r = good_record(random, kind, n);
+    r.numbers.fill(0);
+    if random.chance(density.bare_macroblocks) {
+        return r;
+    }
+    let (luma, chroma) = r.numbers.split_at_mut(256);
+    if kind == 1 {
+        for block in luma.chunks_exact_mut(64) {
+            if !random.chance(density.bare_blocks) {
+                let mut within = |reach: usize| random.below(2 * reach + 1) as i32 - reach as i32;
+                let (first, across, down) = (within(20), within(2), within(2));
+                block.iter_mut().enumerate().for_each(|(i, v)| *v = first + across * (i as i32 % 8) + down * (i as i32 / 8));
+            }
+        }
+    }
+    let coded = if kind == 1 { &mut [] } else { luma };
+    for block in coded.chunks_exact_mut(16).chain(chroma.chunks_exact_mut(16)) {
+        if !random.chance(density.bare_blocks) {
+            random.few_coefficients(block);
+        }
+    }
+    r
+}
+
+/// A sparse record for each macroblock. Of 20 macroblocks 9 are of 4x4, 2 of 8x8 and 9 of 16x16 prediction.
+pub fn sparse_records(random: &mut Random, w: u32, h: u32, slices: &[u16], density: Density) -> Vec<Record> {
+    (0..(w * h) as usize)
+        .map(|a| {
+            let n = driver::near(w as usize, slices, a % w as usize, a / w as usize);
+            let kind = [0, 0, 0, 0, 0, 0, 0, 0, 0, 1, 1, 2, 2, 2, 2, 2, 2, 2, 2, 2][random.below(20)];
+            sparse_record(random, kind, n, density)
+        })
+        .collect()
+}
+
+/// Of 100 blocks of sixteen numbers, how many are all 0.
+pub fn bare_share(records: &[Record]) -> f64 {
+    let blocks = || records.iter().flat_map(|r| r.numbers.chunks_exact(16));
+    100.0 * blocks().filter(|b| b.iter().all(|&v| v == 0)).count() as f64 / blocks().count() as f64
+}
+
 /// The memory of a picture, of which both sides get a copy.
 #[derive(Clone, Debug, PartialEq, Eq)]
 pub struct Memory {
@@ -163,6 +231,19 @@ impl Memory {
 
     /// The same call of the driver over the Rust's routines.
     pub fn rust(&mut self, x: u32, y: u32, kind: u8, modes: &[u8], chroma_mode: u8, numbers: &[i32]) -> u32 {
+        self.rust_as::<true, false>(x, y, kind, modes, chroma_mode, numbers)
+    }
+
+    /// The same in one of the driver's forms.
+    pub fn rust_as<const CHECKS: bool, const SHORT: bool>(
+        &mut self,
+        x: u32,
+        y: u32,
+        kind: u8,
+        modes: &[u8],
+        chroma_mode: u8,
+        numbers: &[i32],
+    ) -> u32 {
         let mut progress = driver::Progress { count: self.progress.0, last: self.progress.1 };
         let [luma, cb, cr] = &mut self.planes;
         let answer = driver::Picture {
@@ -175,7 +256,7 @@ impl Memory {
             slices: &self.slices,
             progress: &mut progress,
         }
-        .rebuild(x, y, kind, modes, chroma_mode, numbers);
+        .rebuild_as::<CHECKS, SHORT>(x, y, kind, modes, chroma_mode, numbers);
         self.progress = (progress.count, progress.last);
         answer
     }
