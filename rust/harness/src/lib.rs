@@ -12,7 +12,7 @@ impl Random {
         Random(seed.wrapping_mul(0x9e37_79b9_7f4a_7c15) | 1)
     }
 
-    pub fn next(&mut self) -> u64 {
+    pub fn word(&mut self) -> u64 {
         self.0 ^= self.0 << 13;
         self.0 ^= self.0 >> 7;
         self.0 ^= self.0 << 17;
@@ -20,11 +20,11 @@ impl Random {
     }
 
     pub fn below(&mut self, n: usize) -> usize {
-        ((self.next() >> 32) as usize * n) >> 32
+        ((self.word() >> 32) as usize * n) >> 32
     }
 
     pub fn byte(&mut self) -> u8 {
-        (self.next() >> 56) as u8
+        (self.word() >> 56) as u8
     }
 
     pub fn one_in(&mut self, n: usize) -> bool {
@@ -195,7 +195,7 @@ impl Memory {
 
     /// A call of the port.
     pub fn port(&mut self, x: u32, y: u32, kind: u8, modes: &[u8], chroma_mode: u8, numbers: &[i32]) -> u32 {
-        let mut progress = jiwarbend::Progress { count: self.progress.0, last: self.progress.1 };
+        let mut progress = jiwarbend::sys::Progress { count: self.progress.0, last: self.progress.1 };
         let [luma, cb, cr] = &mut self.planes;
         let answer = unsafe {
             jiwarbend::sys::jiwarbend_rebuild(
@@ -267,7 +267,7 @@ pub fn slice_map(random: &mut Random, w: u32, h: u32) -> Vec<u16> {
     let n = (w * h) as usize;
     let run = 1 + random.below(n);
     match random.below(4) {
-        0 => vec![random.next() as u16; n],
+        0 => vec![random.word() as u16; n],
         1 => (0..n).map(|a| (a / run) as u16).collect(),
         2 => (0..n).map(|a| (a / w as usize) as u16).collect(),
         _ => (0..n).map(|_| random.below(2) as u16).collect(),

@@ -352,7 +352,7 @@ fn small(report: &mut Report) {
     let mut random = Random::new(3);
     let mut routine = report.routine("clip_u8");
     let ends = [i32::MIN, i32::MAX, i32::MIN + 1, i32::MAX - 1];
-    let anything: Vec<i32> = (0..many).map(|_| random.next() as i32).collect();
+    let anything: Vec<i32> = (0..many).map(|_| random.word() as i32).collect();
     for v in (-100_000..100_000).chain(ends).chain(anything) {
         routine.same(unsafe { jiwarbend_clip_u8(v) }, predict::clip_u8(v), || format!("{v}"));
     }
@@ -461,7 +461,7 @@ fn start(report: &mut Report) {
             let mut port = guarded(len);
             inner(&mut port).iter_mut().for_each(|v| *v = random.byte());
             let mut wanted = port.clone();
-            let mut progress = jiwarbend::Progress { count: random.next() as u32, last: random.next() as u32 };
+            let mut progress = Progress { count: random.word() as u32, last: random.word() as u32 };
             let mut expected = driver::Progress { count: progress.count, last: progress.last };
             let done = inner(&mut port);
             let answer = unsafe { jiwarbend_start(w, h, done.as_mut_ptr(), done.len(), &mut progress) };
@@ -488,7 +488,7 @@ fn rebuild(report: &mut Report) {
         if !random.one_in(20) {
             port.done[a] = random.pick(&[0, 0, 3]);
         }
-        port.progress = (random.below((w * h) as usize + 1) as u32, random.next() as u32);
+        port.progress = (random.below((w * h) as usize + 1) as u32, random.word() as u32);
         let (mut x, mut y) = (a as u32 % w, a as u32 / w);
         let n = driver::near(w as usize, &port.slices, x as usize, y as usize);
         let kind = random.below(3) as u8;
