@@ -167,16 +167,60 @@ pub fn bare_share(records: &[Record]) -> f64 {
     100.0 * blocks().filter(|b| b.iter().all(|&v| v == 0)).count() as f64 / blocks().count() as f64
 }
 
+/// A buffer between guards, which no call may write. Two that are compared are compared with their guards.
+#[derive(Clone, Debug, PartialEq, Eq)]
+pub struct Guarded<T>(Vec<T>);
+
+impl<T: Copy + From<u8>> Guarded<T> {
+    const GUARD: usize = 32;
+    const FILL: u8 = 0xa5;
+
+    pub fn new(elements: &[T]) -> Guarded<T> {
+        let mut all = Vec::with_capacity(elements.len() + 2 * Self::GUARD);
+        all.resize(Self::GUARD, Self::FILL.into());
+        all.extend_from_slice(elements);
+        all.resize(elements.len() + 2 * Self::GUARD, Self::FILL.into());
+        Guarded(all)
+    }
+
+    /// A buffer of `len` elements that all have the guards' value.
+    pub fn filled(len: usize) -> Guarded<T> {
+        Guarded(vec![Self::FILL.into(); len + 2 * Self::GUARD])
+    }
+
+    /// The elements between the guards.
+    pub fn inner(&mut self) -> &mut [T] {
+        let end = self.0.len() - Self::GUARD;
+        &mut self.0[Self::GUARD..end]
+    }
+
+    pub fn len(&self) -> usize {
+        self.0.len() - 2 * Self::GUARD
+    }
+
+    pub fn is_empty(&self) -> bool {
+        self.len() == 0
+    }
+
+    /// The first `len` elements, or all of them and zeros behind.
+    pub fn resize(&mut self, len: usize) {
+        let mut elements = self.inner().to_vec();
+        elements.resize(len, 0.into());
+        *self = Guarded::new(&elements);
+    }
+}
+
 /// The memory of a picture, of which both sides get a copy.
 #[derive(Clone, Debug, PartialEq, Eq)]
 pub struct Memory {
     pub w: u32,
     pub h: u32,
-    pub planes: [Vec<u8>; 3],
+    pub planes: [Guarded<u8>; 3],
     pub strides: [usize; 3],
-    pub done: Vec<u8>,
-    pub slices: Vec<u16>,
-    pub progress: (u32, u32),
+    pub done: Guarded<u8>,
+    pub slices: Guarded<u16>,
+    /// The count and the last address.
+    pub progress: Guarded<u32>,
 }
 
 impl Memory {
@@ -184,20 +228,42 @@ impl Memory {
     pub fn new(random: &mut Random, w: u32, h: u32, slices: Vec<u16>, pad: usize) -> Memory {
         let n = (w * h) as usize;
         let mut plane = |side: usize| {
-            let stride = (side * w as usize + pad).min(4096);
+            let stride = side * w as usize + pad;
             let mut samples = vec![0; (side * h as usize - 1) * stride + side * w as usize + pad];
             samples.iter_mut().for_each(|v| *v = random.byte());
-            (samples, stride)
+            (Guarded::new(&samples), stride)
         };
         let [(luma, ls), (cb, cbs), (cr, crs)] = [plane(16), plane(8), plane(8)];
-        Memory { w, h, planes: [luma, cb, cr], strides: [ls, cbs, crs], done: vec![0; n], slices, progress: (0, 0) }
+        Memory {
+            w,
+            h,
+            planes: [luma, cb, cr],
+            strides: [ls, cbs, crs],
+            done: Guarded::new(&vec![0; n]),
+            slices: Guarded::new(&slices),
+            progress: Guarded::new(&[0, 0]),
+        }
+    }
+
+    /// No macroblock is done.
+    pub fn restart(&mut self) {
+        self.done.inner().fill(0);
+        self.progress.inner().fill(0);
+    }
+
+    /// Plane `p` with this stride and just as many bytes as it needs then.
+    pub fn restride(&mut self, p: usize, stride: usize) {
+        let side = [16, 8, 8][p];
+        self.strides[p] = stride;
+        self.planes[p].resize((side * self.h as usize - 1) * stride + side * self.w as usize);
     }
 
     /// A call of the port.
     pub fn port(&mut self, x: u32, y: u32, kind: u8, modes: &[u8], chroma_mode: u8, numbers: &[i32]) -> u32 {
-        let mut progress = jiwarbend::sys::Progress { count: self.progress.0, last: self.progress.1 };
         let [luma, cb, cr] = &mut self.planes;
-        let answer = unsafe {
+        let [luma, cb, cr] = [luma.inner(), cb.inner(), cr.inner()];
+        let (done, slices, progress) = (self.done.inner(), self.slices.inner(), self.progress.inner());
+        unsafe {
             jiwarbend::sys::jiwarbend_rebuild(
                 self.w,
                 self.h,
@@ -212,11 +278,11 @@ impl Memory {
                 cr.as_mut_ptr(),
                 cr.len(),
                 self.strides[2],
-                self.done.as_mut_ptr(),
-                self.done.len(),
-                self.slices.as_ptr(),
-                self.slices.len(),
-                &mut progress,
+                done.as_mut_ptr(),
+                done.len(),
+                slices.as_ptr(),
+                slices.len(),
+                progress.as_mut_ptr().cast(),
                 kind,
                 modes.as_ptr(),
                 modes.len(),
@@ -224,9 +290,7 @@ impl Memory {
                 numbers.as_ptr(),
                 numbers.len(),
             )
-        };
-        self.progress = (progress.count, progress.last);
-        answer
+        }
     }
 
     /// The same call of the driver over the Rust's routines.
@@ -244,20 +308,21 @@ impl Memory {
         chroma_mode: u8,
         numbers: &[i32],
     ) -> u32 {
-        let mut progress = driver::Progress { count: self.progress.0, last: self.progress.1 };
+        let progress = self.progress.inner();
+        let mut after = driver::Progress { count: progress[0], last: progress[1] };
         let [luma, cb, cr] = &mut self.planes;
         let answer = driver::Picture {
             w: self.w,
             h: self.h,
-            luma: driver::Plane { samples: luma, stride: self.strides[0] },
-            cb: driver::Plane { samples: cb, stride: self.strides[1] },
-            cr: driver::Plane { samples: cr, stride: self.strides[2] },
-            done: &mut self.done,
-            slices: &self.slices,
-            progress: &mut progress,
+            luma: driver::Plane { samples: luma.inner(), stride: self.strides[0] },
+            cb: driver::Plane { samples: cb.inner(), stride: self.strides[1] },
+            cr: driver::Plane { samples: cr.inner(), stride: self.strides[2] },
+            done: self.done.inner(),
+            slices: self.slices.inner(),
+            progress: &mut after,
         }
         .rebuild_as::<CHECKS, SHORT>(x, y, kind, modes, chroma_mode, numbers);
-        self.progress = (progress.count, progress.last);
+        progress.copy_from_slice(&[after.count, after.last]);
         answer
     }
 }

@@ -526,8 +526,7 @@ fn picture(random: &mut Random, group: &'static str, name: String, (w, h): (u32,
     let mut ours = Memory::new(random, w, h, slices, 0);
     let (mut checked, mut bare, mut short) = (ours.clone(), ours.clone(), ours.clone());
     let whole = |memory: &mut Memory, call: &dyn Fn(&mut Memory, u32, u32, &Record) -> u32| {
-        memory.done.fill(0);
-        memory.progress = (0, 0);
+        memory.restart();
         for (a, r) in records.iter().enumerate() {
             let answer = call(memory, a as u32 % w, a as u32 / w, r);
             assert_eq!(answer, 0);
