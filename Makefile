@@ -42,6 +42,7 @@ test:
 	.ci/run
 
 check: languages rust-test examples diff bench-short
+	@echo "check: languages, tests, examples, differential runs and the short benchmark passed"
 
 lib: $(ARCHIVE)
 
