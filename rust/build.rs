@@ -1,5 +1,5 @@
-//! Links the archive that `make lib` builds, or the one that `JIWARBEND_ARCHIVE` names, under whatever name it has. Without an archive
-//! `cargo check` and `cargo doc` work, and what must be linked fails after a word on what to run.
+//! Links the archive that `make lib` builds, or the one that `JIWARBEND_ARCHIVE` names by its whole path, under whatever name it has. Without
+//! an archive `cargo check` and `cargo doc` work, and what must be linked fails after a word on what to run.
 use std::path::PathBuf;
 
 fn main() {

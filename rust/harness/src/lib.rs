@@ -1,5 +1,7 @@
 //! What the differential runs, the fixed lists and the benchmark share: numbers at random, records, and pictures over both sides.
 pub mod list;
+#[path = "../../tests/store/mod.rs"]
+pub mod store;
 
 use oracle::driver::{self, Near};
 use oracle::rules;
