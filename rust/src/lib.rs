@@ -29,6 +29,11 @@
 //! thread: what a call reads and writes is what it is lent. The types hold to the rule, since every call takes its picture by `&mut`, and
 //! [`Picture`] and [`Lent`] can be sent to another thread. `examples/workers.rs` has several workers over many pictures.
 //!
+//! # Panics
+//!
+//! No call panics over its arguments, but for [`Plane::row`]. A call that gets an answer which this version does not know panics: the archive is
+//! of another version than the crate.
+//!
 //! # What is left out
 //!
 //! Deblocking: where a stream has the loop filter on, its pictures differ from these until it is applied. I_PCM macroblocks, entropy decoding
