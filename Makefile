@@ -1,7 +1,8 @@
 # make demo            rebuilds a sample picture out of order and writes build/demo/jiwarbend.png
 # make test            the gate: every proof, every must-fail edit and every program, from nothing
-# make check           what a maintainer runs before a release beside the gate: all of the next six, and a short benchmark
+# make check           what a maintainer runs before a release beside the gate: everything from lib to diff below, and a short benchmark
 # make lib             build/lib/libjiwarbend.a, the proved library for the machine at hand (include/jiwarbend.h)
+# make symbols         the archive has the header's functions, no state, and needs nothing but memory copied and filled
 # make languages       in seconds and without the library: header, signatures, layout and examples of the other languages
 # make rust-test       the Rust crate's tests
 # make examples        the C example and the Rust example, linked and run
@@ -33,7 +34,7 @@ TIME = $(CARGO) run --profile fastest $(OF_RUST) -p harness --bin bench
 WARNINGS = -Wall -Wextra -Wpedantic -Werror
 VERSION = $(shell scripts/signatures --version)
 
-.PHONY: demo test check lib languages rust-test examples diff install bench bench-docs bench-short diff-x86-64 oracle-list macroblock-list
+.PHONY: demo test check lib symbols languages rust-test examples diff install bench bench-docs bench-short diff-x86-64 oracle-list macroblock-list
 demo: $(ARCHIVE)
 	mkdir -p build/demo
 	$(RUN) -p demo build/demo/jiwarbend.png
@@ -41,13 +42,16 @@ demo: $(ARCHIVE)
 test:
 	.ci/run
 
-check: languages rust-test examples diff bench-short
-	@echo "check: languages, tests, examples, differential runs and the short benchmark passed"
+check: languages symbols rust-test examples diff bench-short
+	@echo "check: languages, symbols, tests, examples, differential runs and the short benchmark passed"
 
 lib: $(ARCHIVE)
 
 $(ARCHIVE): $(SOURCES) scripts/archive
 	scripts/archive $@
+
+symbols: $(ARCHIVE)
+	scripts/symbols $(ARCHIVE)
 
 languages:
 	scripts/languages
