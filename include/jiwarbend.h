@@ -11,10 +11,29 @@
      7  a used mode needs samples that are not available where it stands
      8  a number lies outside -32768..32767
 
-   A refused call writes nothing. A list is a pointer and the number of its elements; the pointer is not null, also where the number is 0,
-   and has the alignment of its element. What a call writes overlaps nothing else that the same call is lent. */
+   A refused call writes nothing. Later versions may give further numbers: take an unknown one as a refusal.
+
+   Memory. A list is a pointer and the number of its elements; the pointer is not null, also where the number is 0, and has the alignment of its
+   element. What a call writes overlaps nothing else that the same call is lent. The library keeps nothing between two calls and takes no memory
+   of its own but the stack.
+
+   Threads. One call at a time for a picture; different pictures side by side. A call reads and writes what it is lent and nothing else, takes
+   no lock, and expects that nobody else writes what it is lent or reads what it writes before it has returned. Two threads that call
+   for one picture at the same time can leave its count wrong: give the picture a lock, or to one thread.
+
+   Left out. Deblocking (a stream with the loop filter on gives other samples until it is applied), I_PCM macroblocks, entropy decoding,
+   dequantisation, constrained intra prediction, field coding, prediction between pictures, other sample depths and chroma formats.
+
+   Assumed. That pointers and lengths describe memory that is the caller's, as above; that the definitions which the library is proved against
+   say what ITU-T H.264 says; the checker, and the compiler's back end. Nothing is assumed of the numbers or of the order of calls.
+
+   Link with libjiwarbend.a, and with no other library: cc program.c $(pkg-config --cflags --libs jiwarbend). */
 #ifndef JIWARBEND_H
 #define JIWARBEND_H
+
+#define JIWARBEND_VERSION_MAJOR 0
+#define JIWARBEND_VERSION_MINOR 2
+#define JIWARBEND_VERSION_PATCH 0
 
 #include <stdbool.h>
 #include <stddef.h>
@@ -36,6 +55,35 @@ enum jiwarbend_answer {
     JIWARBEND_RANGE = 8
 };
 
+/* The kinds of macroblocks, and the modes of luma 4x4 and 8x8, luma 16x16 and chroma blocks. */
+enum jiwarbend_kind { JIWARBEND_KIND_4X4 = 0, JIWARBEND_KIND_8X8 = 1, JIWARBEND_KIND_16X16 = 2 };
+
+enum jiwarbend_luma_mode {
+    JIWARBEND_LUMA_VERTICAL = 0,
+    JIWARBEND_LUMA_HORIZONTAL = 1,
+    JIWARBEND_LUMA_DC = 2,
+    JIWARBEND_LUMA_DIAGONAL_DOWN_LEFT = 3,
+    JIWARBEND_LUMA_DIAGONAL_DOWN_RIGHT = 4,
+    JIWARBEND_LUMA_VERTICAL_RIGHT = 5,
+    JIWARBEND_LUMA_HORIZONTAL_DOWN = 6,
+    JIWARBEND_LUMA_VERTICAL_LEFT = 7,
+    JIWARBEND_LUMA_HORIZONTAL_UP = 8
+};
+
+enum jiwarbend_16x16_mode {
+    JIWARBEND_16X16_VERTICAL = 0,
+    JIWARBEND_16X16_HORIZONTAL = 1,
+    JIWARBEND_16X16_DC = 2,
+    JIWARBEND_16X16_PLANE = 3
+};
+
+enum jiwarbend_chroma_mode {
+    JIWARBEND_CHROMA_DC = 0,
+    JIWARBEND_CHROMA_HORIZONTAL = 1,
+    JIWARBEND_CHROMA_VERTICAL = 2,
+    JIWARBEND_CHROMA_PLANE = 3
+};
+
 /* ---- pictures */
 
 /* How far a picture has come: the number of accepted macroblocks and the address, y * w + x, of the last one. */
@@ -54,13 +102,14 @@ uint32_t jiwarbend_start(uint32_t w, uint32_t h, uint8_t *done, size_t done_len,
    luma, cb, cr   16w by 16h, 8w by 8h and 8w by 8h samples. A stride is at least the width and at most 4096; a plane has at least
                   (height - 1) * stride + width bytes.
    done           w * h bytes; 1 is done, anything else undone.
-   slices         w * h slice numbers. A neighbour is available where it lies in the picture and has the same number.
+   slices         w * h slice numbers, any of them. A neighbour is available where it lies in the picture and has the same number.
    progress       its count is at most w * h.
    kind           0 for 4x4, 1 for 8x8, 2 for 16x16 luma prediction.
    modes          16 luma modes: kind 0 uses all, in scan order, kind 1 the first four, kind 2 the first; the others are 0.
    chroma_mode    0 DC, 1 horizontal, 2 vertical, 3 plane.
    numbers        384: luma 256, Cb 64, Cr 64. Luma of kinds 0 and 2: sixteen blocks of 16 dequantised coefficients in scan order; of kind
-                  1: four blocks of 64 residual samples. Chroma: four blocks of 16 coefficients each. All in raster order. */
+                  1: four blocks of 64 residual samples. Chroma: four blocks of 16 coefficients each. All in raster order.
+                  docs/RECORDS.md draws the scan and works an example. */
 uint32_t jiwarbend_rebuild(uint32_t w, uint32_t h, uint32_t x, uint32_t y,
     uint8_t *luma, size_t luma_len, size_t luma_stride, uint8_t *cb, size_t cb_len, size_t cb_stride, uint8_t *cr, size_t cr_len, size_t cr_stride,
     uint8_t *done, size_t done_len, const uint16_t *slices, size_t slices_len, struct jiwarbend_progress *progress,

@@ -10,9 +10,9 @@ fn main() {
     let here = PathBuf::from(std::env::var("CARGO_MANIFEST_DIR").unwrap());
     let out = PathBuf::from(std::env::var("OUT_DIR").unwrap());
     let folder = std::env::var_os("JIWARBEND_ORACLE").map_or_else(|| here.join("../../../shared/docs/src"), PathBuf::from);
-    let folder = folder
-        .canonicalize()
-        .unwrap_or_else(|_| panic!("{} is not there: name the folder of the Rust that was ported in JIWARBEND_ORACLE", folder.display()));
+    let folder = folder.canonicalize().unwrap_or_else(|_| {
+        panic!("{} is not there: `make .. ORACLE=` names a checkout of rusty_h264 at commit 3c73885dcf", folder.display())
+    });
     let file = |name: &str| {
         let path = folder.join("crates").join(name);
         println!("cargo:rerun-if-changed={}", path.display());

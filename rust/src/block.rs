@@ -1,5 +1,8 @@
 //! The routines on single blocks: intra prediction (clause 8.3), the 4x4 inverse transform and clipped sums (clause 8.5), and the small
-//! tables beside them.
+//! tables beside them. A mode is a number, so that any may be tried; [`LumaMode`](crate::LumaMode) and its companions give the numbers names.
+//!
+//! A routine that returns an error has written nothing. Every `unsafe` block here passes slices and arrays as pointers with their lengths,
+//! which is all that the C functions ask for.
 use crate::{sys, Refusal};
 
 /// Which samples beside a block are available.
@@ -91,13 +94,29 @@ macro_rules! predictors {
 predictors! {
     /// 4x4 luma prediction (8.3.1.2), modes 0 to 8. `top` holds the four samples above and the four above and to the right, which the
     /// caller fills with the last one above where they are not available.
+    ///
+    /// # Errors
+    ///
+    /// [`Refusal::Unknown`] for a mode above 8, [`Refusal::NotPermitted`] for one that the marks do not permit.
     intra4x4_pred, jiwarbend_intra4x4_pred, 8, 4, 16;
     /// 8x8 luma prediction (8.3.2.2), modes 0 to 8, with the neighbours filtered first. `top` holds the eight samples above and the
     /// eight above and to the right, which the caller fills with the last one above where they are not available.
+    ///
+    /// # Errors
+    ///
+    /// [`Refusal::Unknown`] for a mode above 8, [`Refusal::NotPermitted`] for one that the marks do not permit.
     intra8x8_pred, jiwarbend_intra8x8_pred, 16, 8, 64;
     /// 16x16 luma prediction (8.3.3), modes 0 to 3.
+    ///
+    /// # Errors
+    ///
+    /// [`Refusal::Unknown`] for a mode above 3, [`Refusal::NotPermitted`] for one that the marks do not permit.
     luma16x16_pred, jiwarbend_luma16x16_pred, 16, 16, 256;
     /// 8x8 chroma prediction (8.3.4), modes 0 to 3.
+    ///
+    /// # Errors
+    ///
+    /// [`Refusal::Unknown`] for a mode above 3, [`Refusal::NotPermitted`] for one that the marks do not permit.
     chroma8x8_pred, jiwarbend_chroma8x8_pred, 8, 8, 64;
 }
 
@@ -118,11 +137,21 @@ pub fn chroma8x8_dc(marks: Marks, top: &[u8; 8], left: &[u8; 8]) -> [u8; 64] {
 }
 
 /// 16x16 luma prediction from the samples around place `base` of a plane, with both neighbours there, into the first 256 bytes of `pred`.
+///
+/// # Errors
+///
+/// [`Refusal::Room`] unless the stride is 1..=4096, corner, above row and left column lie in `rec`, and `pred` has 256 bytes;
+/// [`Refusal::Unknown`] for a mode above 3.
 pub fn i16x16_luma_pred(mode: u8, pred: &mut [u8], rec: &[u8], base: usize, stride: usize) -> Result<(), Refusal> {
     Refusal::check(unsafe { sys::jiwarbend_i16x16_luma_pred(mode, pred.as_mut_ptr(), pred.len(), rec.as_ptr(), rec.len(), base, stride) })
 }
 
 /// 8x8 chroma prediction, modes 2 and 3, from the samples around place `base` of a plane, into the first 64 bytes of `pred`.
+///
+/// # Errors
+///
+/// [`Refusal::Room`] unless the stride is 1..=4096, corner, above row and left column lie in `rec`, and `pred` has 64 bytes;
+/// [`Refusal::Unknown`] for another mode.
 pub fn chroma8x8_plane_pred(mode: u8, pred: &mut [u8], rec: &[u8], base: usize, stride: usize) -> Result<(), Refusal> {
     Refusal::check(unsafe {
         sys::jiwarbend_chroma8x8_plane_pred(mode, pred.as_mut_ptr(), pred.len(), rec.as_ptr(), rec.len(), base, stride)
@@ -130,6 +159,10 @@ pub fn chroma8x8_plane_pred(mode: u8, pred: &mut [u8], rec: &[u8], base: usize, 
 }
 
 /// The residual of sixteen dequantised coefficients (8.5.12.2).
+///
+/// # Errors
+///
+/// [`Refusal::Range`] for a number outside -32768..=32767.
 pub fn inverse_4x4(deq: &[i32; 16]) -> Result<[i32; 16], Refusal> {
     let mut out = [0; 16];
     let answer = unsafe { sys::jiwarbend_inverse_4x4(deq.as_ptr(), deq.len(), out.as_mut_ptr(), out.len()) };
@@ -151,10 +184,22 @@ macro_rules! sums {
 
 sums! {
     /// The clipped sums of a 4x4 prediction and the residual of its coefficients.
+    ///
+    /// # Errors
+    ///
+    /// [`Refusal::Range`] for a number outside -32768..=32767.
     reconstruct_4x4, jiwarbend_reconstruct_4x4, deq, 16;
     /// The clipped sums of a 4x4 prediction and a residual.
+    ///
+    /// # Errors
+    ///
+    /// [`Refusal::Range`] for a number outside -32768..=32767.
     add_residual_4x4, jiwarbend_add_residual_4x4, res, 16;
     /// The clipped sums of an 8x8 prediction and a residual.
+    ///
+    /// # Errors
+    ///
+    /// [`Refusal::Range`] for a number outside -32768..=32767.
     add_residual_8x8, jiwarbend_add_residual_8x8, res, 64;
 }
 
@@ -168,6 +213,11 @@ pub struct Square {
 }
 
 /// The clipped sums of a prediction in a plane and the residual of its coefficients, written into another plane.
+///
+/// # Errors
+///
+/// [`Refusal::Room`] unless the prediction's stride is 0..=4096, the written one 4..=4096, and all rows lie in their buffers;
+/// [`Refusal::Range`] for a number outside -32768..=32767.
 pub fn reconstruct_4x4_into(deq: &[i32; 16], pred: &[u8], from: Square, rec: &mut [u8], to: Square) -> Result<(), Refusal> {
     Refusal::check(unsafe {
         sys::jiwarbend_reconstruct_4x4_into(
@@ -186,6 +236,11 @@ pub fn reconstruct_4x4_into(deq: &[i32; 16], pred: &[u8], from: Square, rec: &mu
 }
 
 /// The clipped sums of a prediction in a plane and one residual for all sixteen samples, written into another plane.
+///
+/// # Errors
+///
+/// [`Refusal::Room`] unless the prediction's stride is 0..=4096, the written one 4..=4096, and all rows lie in their buffers;
+/// [`Refusal::Range`] for a number outside -32768..=32767.
 pub fn reconstruct_4x4_dc_into(rval: i32, pred: &[u8], from: Square, rec: &mut [u8], to: Square) -> Result<(), Refusal> {
     Refusal::check(unsafe {
         sys::jiwarbend_reconstruct_4x4_dc_into(
@@ -203,6 +258,11 @@ pub fn reconstruct_4x4_dc_into(rval: i32, pred: &[u8], from: Square, rec: &mut [
 }
 
 /// The clipped sums of a prediction in a plane and a residual, written into another plane.
+///
+/// # Errors
+///
+/// [`Refusal::Room`] unless the prediction's stride is 0..=4096, the written one 4..=4096, and all rows lie in their buffers;
+/// [`Refusal::Range`] for a number outside -32768..=32767.
 pub fn add_residual_4x4_into(res: &[i32; 16], pred: &[u8], from: Square, rec: &mut [u8], to: Square) -> Result<(), Refusal> {
     Refusal::check(unsafe {
         sys::jiwarbend_add_residual_4x4_into(

@@ -7,12 +7,11 @@
 //! A [`Picture`] owns planes and maps, a [`Lent`] borrows them. The routines on single blocks are in [`block`].
 //!
 //! ```
-//! use jiwarbend::{Picture, Record, Refusal};
+//! use jiwarbend::{ChromaMode, Luma16x16Mode, Picture, Record, Refusal};
 //!
 //! let mut picture = Picture::new(2, 1)?;
-//! // An 16x16 block of DC prediction, with 64 added to the sixteen samples of the first 4x4 block of luma.
-//! let mut record = Record { kind: 2, ..Record::default() };
-//! record.modes[0] = 2;
+//! // A 16x16 block of DC prediction, with 64 added to the sixteen samples of the first 4x4 block of luma.
+//! let mut record = Record::of_16x16(Luma16x16Mode::Dc, ChromaMode::Dc);
 //! record.numbers[0] = 64 * 64;
 //!
 //! // The left neighbour comes first, since both lie in one slice.
@@ -23,14 +22,36 @@
 //! assert_eq!(picture.luma().row(0)[..6], [192, 192, 192, 192, 128, 128]);
 //! # Ok::<(), Refusal>(())
 //! ```
+//!
+//! # Threads
+//!
+//! One call at a time for a picture; different pictures side by side. The library keeps no state of its own, takes no lock and makes no
+//! thread: what a call reads and writes is what it is lent. The types hold to the rule, since every call takes its picture by `&mut`, and
+//! [`Picture`] and [`Lent`] can be sent to another thread. `examples/workers.rs` has several workers over many pictures.
+//!
+//! # Panics
+//!
+//! No call panics over its arguments, but for [`Plane::row`]. A call that gets an answer which this version does not know panics: the archive is
+//! of another version than the crate.
+//!
+//! # What is left out
+//!
+//! Deblocking: where a stream has the loop filter on, its pictures differ from these until it is applied. I_PCM macroblocks, entropy decoding
+//! and dequantisation, constrained intra prediction, field coding, prediction between pictures, other sample depths and chroma formats.
+//!
+//! # What is assumed
+//!
+//! That the definitions that the library is proved against say what the standard says; the checker and the compiler's back end; this crate, whose
+//! `unsafe` blocks pass slices as pointers with their lengths.
 #![warn(missing_docs)]
 
 pub mod block;
+mod modes;
 mod picture;
 mod refusal;
 #[allow(missing_docs)]
 pub mod sys;
 
-pub use picture::{Lent, LentPlane, Picture, Plane, Record};
+pub use modes::{ChromaMode, Kind, Luma16x16Mode, LumaMode};
+pub use picture::{Lent, LentPlane, Picture, Plane, Progress, Record};
 pub use refusal::Refusal;
-pub use sys::Progress;

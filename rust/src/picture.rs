@@ -1,14 +1,15 @@
 //! Whole pictures, macroblock by macroblock.
-use crate::{sys, Progress, Refusal};
+use crate::{sys, ChromaMode, Kind, Luma16x16Mode, LumaMode, Refusal};
 
-/// What a macroblock is rebuilt from.
+/// What a macroblock is rebuilt from. Its fields are the numbers that the calls take, and any numbers may stand in them: what is wrong
+/// is refused. [`Record::of_4x4`], [`Record::of_8x8`] and [`Record::of_16x16`] make one from modes by name. docs/RECORDS.md draws it.
 #[derive(Clone, Debug, PartialEq, Eq)]
 pub struct Record {
-    /// 0 for 4x4, 1 for 8x8 and 2 for 16x16 luma prediction.
+    /// 0 for 4x4, 1 for 8x8 and 2 for 16x16 luma prediction: the number of a [`Kind`].
     pub kind: u8,
     /// The luma modes: all sixteen in scan order for kind 0, the first four for kind 1, the first for kind 2. Unused ones are 0.
     pub modes: [u8; 16],
-    /// The chroma mode.
+    /// The chroma mode: the number of a [`ChromaMode`].
     pub chroma_mode: u8,
     /// 256 numbers for luma, 64 for Cb, 64 for Cr. Luma: sixteen blocks of coefficients in scan order for kinds 0 and 2, four
     /// blocks of 64 residual samples for kind 1. Chroma: four blocks of coefficients for each plane. Coefficients and samples are in
@@ -19,6 +20,55 @@ pub struct Record {
 impl Default for Record {
     fn default() -> Self {
         Record { kind: 0, modes: [0; 16], chroma_mode: 0, numbers: [0; 384] }
+    }
+}
+
+impl Record {
+    fn of(kind: Kind, used: impl IntoIterator<Item = u8>, chroma: ChromaMode) -> Record {
+        let mut record = Record { kind: kind.number(), chroma_mode: chroma.number(), ..Record::default() };
+        record.modes.iter_mut().zip(used).for_each(|(mode, used)| *mode = used);
+        record
+    }
+
+    /// A macroblock of 4x4 prediction with no residual: a mode for each of its sixteen blocks in scan order.
+    pub fn of_4x4(modes: [LumaMode; 16], chroma: ChromaMode) -> Record {
+        Record::of(Kind::Luma4x4, modes.map(LumaMode::number), chroma)
+    }
+
+    /// A macroblock of 8x8 prediction with no residual: a mode for each of its four blocks in raster order.
+    pub fn of_8x8(modes: [LumaMode; 4], chroma: ChromaMode) -> Record {
+        Record::of(Kind::Luma8x8, modes.map(LumaMode::number), chroma)
+    }
+
+    /// A macroblock of 16x16 prediction with no residual.
+    pub fn of_16x16(mode: Luma16x16Mode, chroma: ChromaMode) -> Record {
+        Record::of(Kind::Luma16x16, [mode.number()], chroma)
+    }
+}
+
+/// How far a picture has come: the number of accepted macroblocks and the address, y * w + x, of the last one.
+#[derive(Clone, Copy, Debug, Default, PartialEq, Eq)]
+pub struct Progress(sys::Progress);
+
+impl Progress {
+    /// No macroblock accepted.
+    pub const fn new() -> Progress {
+        Progress::at(0, 0)
+    }
+
+    /// A picture that has come so far, for memory that was kept elsewhere.
+    pub const fn at(count: u32, last: u32) -> Progress {
+        Progress(sys::Progress { count, last })
+    }
+
+    /// The number of accepted macroblocks.
+    pub const fn count(self) -> u32 {
+        self.0.count
+    }
+
+    /// The address of the last one; 0 where there is none yet.
+    pub const fn last(self) -> u32 {
+        self.0.last
     }
 }
 
@@ -58,59 +108,100 @@ impl Plane {
     }
 
     /// The samples of row `y`.
+    ///
+    /// # Panics
+    ///
+    /// If `y` is not below the height.
     pub fn row(&self, y: usize) -> &[u8] {
+        assert!(y < self.height, "row {y} of a plane of {} rows", self.height);
         &self.samples[y * self.stride..][..self.width]
     }
 
+    /// The rows from the top down, without padding.
+    pub fn rows(&self) -> impl Iterator<Item = &[u8]> + '_ {
+        (0..self.height).map(|y| self.row(y))
+    }
+
     fn lend(&mut self) -> LentPlane<'_> {
-        LentPlane { samples: &mut self.samples, stride: self.stride }
+        LentPlane::new(&mut self.samples, self.stride)
     }
 }
 
 /// A plane that is lent: its bytes and the distance of two rows.
 #[derive(Debug)]
 pub struct LentPlane<'a> {
-    /// At least (height - 1) * stride + width bytes.
-    pub samples: &'a mut [u8],
-    /// At least the width, at most 4096.
-    pub stride: usize,
+    samples: &'a mut [u8],
+    stride: usize,
 }
 
-/// A picture of `w` by `h` macroblocks over memory that others own. Any sizes may be put together: what does not fit is refused by the
-/// calls.
+impl<'a> LentPlane<'a> {
+    /// A plane of at least (height - 1) * stride + width bytes, with a stride of at least the width and at most 4096.
+    pub fn new(samples: &'a mut [u8], stride: usize) -> LentPlane<'a> {
+        LentPlane { samples, stride }
+    }
+}
+
+/// A picture over memory that others own. Any sizes may be put together: what does not fit is refused by the calls.
+///
+/// It holds the only references to what is written, so that no other thread has a hand in the picture while it lives.
 #[derive(Debug)]
 pub struct Lent<'a> {
-    /// The width in macroblocks, 1..=120.
-    pub w: u32,
-    /// The height in macroblocks, 1..=68.
-    pub h: u32,
-    /// 16w by 16h samples.
-    pub luma: LentPlane<'a>,
-    /// 8w by 8h samples.
-    pub cb: LentPlane<'a>,
-    /// 8w by 8h samples.
-    pub cr: LentPlane<'a>,
-    /// A byte for each macroblock: 1 where it is done.
-    pub done: &'a mut [u8],
-    /// The slice number of each macroblock.
-    pub slices: &'a [u16],
-    /// How far the picture has come.
-    pub progress: &'a mut Progress,
+    w: u32,
+    h: u32,
+    luma: LentPlane<'a>,
+    cb: LentPlane<'a>,
+    cr: LentPlane<'a>,
+    done: &'a mut [u8],
+    slices: &'a [u16],
+    progress: &'a mut Progress,
 }
 
-impl Lent<'_> {
-    /// Starts the picture: no macroblock is done.
-    pub fn start(&mut self) -> Result<(), Refusal> {
-        Refusal::check(unsafe { sys::jiwarbend_start(self.w, self.h, self.done.as_mut_ptr(), self.done.len(), self.progress) })
+impl<'a> Lent<'a> {
+    /// A picture of `w` by `h` macroblocks, 1..=120 by 1..=68.
+    ///
+    /// * `luma`, `cb`, `cr`: 16w by 16h, 8w by 8h and 8w by 8h samples.
+    /// * `done`: a byte for each macroblock, 1 where it is done.
+    /// * `slices`: the slice number of each macroblock.
+    /// * `progress`: how far the picture has come.
+    ///
+    /// Call [`Lent::start`] unless the maps and the progress are those of a picture that has been started.
+    pub fn new(
+        (w, h): (u32, u32),
+        [luma, cb, cr]: [LentPlane<'a>; 3],
+        done: &'a mut [u8],
+        slices: &'a [u16],
+        progress: &'a mut Progress,
+    ) -> Lent<'a> {
+        Lent { w, h, luma, cb, cr, done, slices, progress }
     }
 
-    /// Rebuilds the macroblock in column `x` and row `y`, or refuses and changes nothing.
+    /// Starts the picture: no macroblock is done.
+    ///
+    /// # Errors
+    ///
+    /// [`Refusal::Size`], or [`Refusal::Room`] for the length of the done map.
+    pub fn start(&mut self) -> Result<(), Refusal> {
+        // SAFETY: pointer and length are a slice's, and the two that are written are borrowed apart.
+        Refusal::check(unsafe { sys::jiwarbend_start(self.w, self.h, self.done.as_mut_ptr(), self.done.len(), &mut self.progress.0) })
+    }
+
+    /// Rebuilds the macroblock in column `x` and row `y`.
+    ///
+    /// # Errors
+    ///
+    /// The smallest [`Refusal`] that applies; nothing was changed. [`Refusal::NotReady`] is the one that a sound caller meets: the
+    /// macroblock is offered again when its neighbours are done.
     pub fn rebuild(&mut self, x: u32, y: u32, record: &Record) -> Result<(), Refusal> {
         self.rebuild_from(x, y, record.kind, &record.modes, record.chroma_mode, &record.numbers)
     }
 
-    /// The same from a record in parts, whose lists may have any length: other lengths than 16 and 384 are refused.
+    /// The same from a record in parts, whose lists may have any length.
+    ///
+    /// # Errors
+    ///
+    /// As [`Lent::rebuild`]; [`Refusal::Room`] for other lengths than 16 modes and 384 numbers.
     pub fn rebuild_from(&mut self, x: u32, y: u32, kind: u8, modes: &[u8], chroma_mode: u8, numbers: &[i32]) -> Result<(), Refusal> {
+        // SAFETY: pointers and lengths are slices', and what is written is borrowed apart from all else.
         Refusal::check(unsafe {
             sys::jiwarbend_rebuild(
                 self.w,
@@ -130,7 +221,7 @@ impl Lent<'_> {
                 self.done.len(),
                 self.slices.as_ptr(),
                 self.slices.len(),
-                self.progress,
+                &mut self.progress.0,
                 kind,
                 modes.as_ptr(),
                 modes.len(),
@@ -140,9 +231,17 @@ impl Lent<'_> {
             )
         })
     }
+
+    /// How many macroblocks are done, and which was the last.
+    pub fn progress(&self) -> Progress {
+        *self.progress
+    }
 }
 
-/// A picture that owns its planes and maps. It is started when it is made.
+/// A picture that owns its planes and maps. It is started when it is made, and only its calls change it.
+///
+/// A call takes the picture by `&mut`, so that two threads cannot be in one picture at a time. Different pictures may be rebuilt side
+/// by side: a `Picture` can be sent to another thread, and nothing is shared between two of them.
 #[derive(Clone, Debug)]
 pub struct Picture {
     w: u32,
@@ -157,17 +256,30 @@ pub struct Picture {
 
 impl Picture {
     /// A picture of `w` by `h` macroblocks in one slice, with no padding.
+    ///
+    /// # Errors
+    ///
+    /// [`Refusal::Size`] unless `w` is 1..=120 and `h` is 1..=68.
     pub fn new(w: u32, h: u32) -> Result<Picture, Refusal> {
         Picture::sized(w, h)?;
         Picture::with_slices(w, h, vec![0; w as usize * h as usize])
     }
 
     /// The same with the slice number of each macroblock, in raster order.
+    ///
+    /// # Errors
+    ///
+    /// [`Refusal::Size`], or [`Refusal::Room`] unless there are `w * h` slice numbers.
     pub fn with_slices(w: u32, h: u32, slices: Vec<u16>) -> Result<Picture, Refusal> {
+        Picture::sized(w, h)?;
         Picture::with_strides(w, h, slices, 16 * w as usize, 8 * w as usize)
     }
 
-    /// The same with the distance of two rows of luma and of chroma, each at least the width and at most 4096.
+    /// The same with the distance of two rows of luma and of chroma.
+    ///
+    /// # Errors
+    ///
+    /// As [`Picture::with_slices`]; [`Refusal::Room`] also unless each stride is at least the plane's width and at most 4096.
     pub fn with_strides(w: u32, h: u32, slices: Vec<u16>, luma: usize, chroma: usize) -> Result<Picture, Refusal> {
         Picture::sized(w, h)?;
         let (columns, rows) = (w as usize, h as usize);
@@ -183,9 +295,9 @@ impl Picture {
             cr: Plane::new(8 * columns, 8 * rows, chroma),
             done: vec![0; columns * rows],
             slices,
-            progress: Progress::default(),
+            progress: Progress::new(),
         };
-        picture.start()?;
+        picture.start();
         Ok(picture)
     }
 
@@ -195,28 +307,33 @@ impl Picture {
         fits.then_some(()).ok_or(Refusal::Size)
     }
 
-    /// The picture as memory that is lent to the calls.
-    pub fn lend(&mut self) -> Lent<'_> {
-        Lent {
-            w: self.w,
-            h: self.h,
-            luma: self.luma.lend(),
-            cb: self.cb.lend(),
-            cr: self.cr.lend(),
-            done: &mut self.done,
-            slices: &self.slices,
-            progress: &mut self.progress,
-        }
+    fn lend(&mut self) -> Lent<'_> {
+        let planes = [self.luma.lend(), self.cb.lend(), self.cr.lend()];
+        Lent::new((self.w, self.h), planes, &mut self.done, &self.slices, &mut self.progress)
     }
 
-    /// Starts the picture anew: no macroblock is done.
-    pub fn start(&mut self) -> Result<(), Refusal> {
-        self.lend().start()
+    /// Starts the picture anew: no macroblock is done. The planes keep their samples until they are rebuilt.
+    pub fn start(&mut self) {
+        self.lend().start().expect("a picture has the memory of its size");
     }
 
-    /// Rebuilds the macroblock in column `x` and row `y`, or refuses and changes nothing.
+    /// Rebuilds the macroblock in column `x` and row `y`.
+    ///
+    /// # Errors
+    ///
+    /// The smallest [`Refusal`] that applies, [`Refusal::Place`] to [`Refusal::Range`]; nothing was changed. [`Refusal::NotReady`] is
+    /// the one that a sound caller meets: the macroblock is offered again when its neighbours are done.
     pub fn rebuild(&mut self, x: u32, y: u32, record: &Record) -> Result<(), Refusal> {
         self.lend().rebuild(x, y, record)
+    }
+
+    /// The same from a record in parts, whose lists may have any length.
+    ///
+    /// # Errors
+    ///
+    /// As [`Picture::rebuild`]; [`Refusal::Room`] for other lengths than 16 modes and 384 numbers.
+    pub fn rebuild_from(&mut self, x: u32, y: u32, kind: u8, modes: &[u8], chroma_mode: u8, numbers: &[i32]) -> Result<(), Refusal> {
+        self.lend().rebuild_from(x, y, kind, modes, chroma_mode, numbers)
     }
 
     /// The width in macroblocks.
@@ -249,12 +366,12 @@ impl Picture {
         self.progress
     }
 
-    /// Whether the macroblock in column `x` and row `y` is done.
+    /// Whether the macroblock in column `x` and row `y` is done; none is outside the picture.
     pub fn is_done(&self, x: u32, y: u32) -> bool {
         x < self.w && y < self.h && self.done[(y * self.w + x) as usize] == 1
     }
 
-    /// The first macroblock, by address, that is not done: it never has to wait.
+    /// The first macroblock, by address, that is not done, as column and row: it never has to wait.
     pub fn first_undone(&self) -> Option<(u32, u32)> {
         let address = self.done.iter().position(|&d| d != 1)? as u32;
         Some((address % self.w, address / self.w))
@@ -262,6 +379,6 @@ impl Picture {
 
     /// Whether every macroblock is done.
     pub fn is_finished(&self) -> bool {
-        self.progress.count == self.w * self.h
+        self.progress.count() == self.w * self.h
     }
 }

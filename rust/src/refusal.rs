@@ -2,8 +2,9 @@
 use std::fmt;
 
 /// The reasons for which a call is refused, under their numbers. Where several hold, the smallest is given, and a refused call has
-/// written nothing.
+/// written nothing. Later versions may know more of them, so that a `match` has an arm for the rest.
 #[derive(Clone, Copy, Debug, PartialEq, Eq, PartialOrd, Ord, Hash)]
+#[non_exhaustive]
 #[repr(u32)]
 pub enum Refusal {
     /// The width is not 1..=120 macroblocks, or the height not 1..=68.
@@ -25,8 +26,8 @@ pub enum Refusal {
 }
 
 impl Refusal {
-    /// Every refusal, in the order of its number.
-    pub const ALL: [Refusal; 8] = [
+    /// Every refusal that this version knows, in the order of its number.
+    pub const ALL: &'static [Refusal] = &[
         Refusal::Size,
         Refusal::Room,
         Refusal::Place,
@@ -37,21 +38,21 @@ impl Refusal {
         Refusal::Range,
     ];
 
-    /// The number of the refusal, 1 to 8.
-    pub fn number(self) -> u32 {
+    /// The number of the refusal, as C callers get it.
+    pub const fn number(self) -> u32 {
         self as u32
     }
 
     /// The refusal that has this number.
     pub fn from_number(number: u32) -> Option<Refusal> {
-        Refusal::ALL.into_iter().find(|r| r.number() == number)
+        Refusal::ALL.iter().copied().find(|r| r.number() == number)
     }
 
     /// An answer of the C functions as a result.
     pub(crate) fn check(answer: u32) -> Result<(), Refusal> {
         match answer {
             0 => Ok(()),
-            n => Err(Refusal::from_number(n).expect("an answer is 0 to 8")),
+            n => Err(Refusal::from_number(n).unwrap_or_else(|| panic!("an archive of another version: it answers {n}"))),
         }
     }
 }

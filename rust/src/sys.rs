@@ -1,7 +1,13 @@
-//! The library's C functions, as `include/jiwarbend.h` documents them. Every function takes any numbers and any lent memory; a pointer
-//! with its length is a Rust slice's, so it is never null, and memory that is written overlaps nothing else of the same call.
+//! The library's C functions, as `include/jiwarbend.h` documents them. `scripts/signatures` holds the two side by side.
+//!
+//! # Safety
+//!
+//! Every function takes any numbers. A pointer with a length behind it is a slice's: it is not null, also where the length is 0, it is aligned,
+//! and as many elements stand behind it. What a call writes overlaps nothing else that the same call is lent, and nobody else reads or writes
+//! it during the call.
 
-/// How far a picture has come: the number of accepted macroblocks and the address of the last one.
+/// How far a picture has come: the number of accepted macroblocks and the address of the last one. The same memory as the header's
+/// `struct jiwarbend_progress`.
 #[repr(C)]
 #[derive(Clone, Copy, Debug, Default, PartialEq, Eq)]
 pub struct Progress {

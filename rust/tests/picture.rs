@@ -1,5 +1,5 @@
 //! Pictures as a service uses them: every refusal, any order, several threads.
-use jiwarbend::{Lent, LentPlane, Picture, Progress, Record, Refusal};
+use jiwarbend::{ChromaMode, Kind, Lent, LentPlane, Luma16x16Mode, LumaMode, Picture, Progress, Record, Refusal};
 use std::sync::{Condvar, Mutex};
 
 /// A small generator of numbers, so that a failing run can be repeated.
@@ -126,22 +126,14 @@ impl Memory {
             strides: [40, 20, 20],
             done: vec![0; 4],
             slices: vec![0; 4],
-            progress: Progress::default(),
+            progress: Progress::new(),
         }
     }
 
     fn lend(&mut self) -> Lent<'_> {
         let [luma, cb, cr] = &mut self.planes;
-        Lent {
-            w: self.w,
-            h: self.h,
-            luma: LentPlane { samples: luma, stride: self.strides[0] },
-            cb: LentPlane { samples: cb, stride: self.strides[1] },
-            cr: LentPlane { samples: cr, stride: self.strides[2] },
-            done: &mut self.done,
-            slices: &self.slices,
-            progress: &mut self.progress,
-        }
+        let planes = [LentPlane::new(luma, self.strides[0]), LentPlane::new(cb, self.strides[1]), LentPlane::new(cr, self.strides[2])];
+        Lent::new((self.w, self.h), planes, &mut self.done, &self.slices, &mut self.progress)
     }
 
     /// Offers a macroblock that is refused, and sees that nothing has changed.
@@ -154,15 +146,7 @@ impl Memory {
 }
 
 fn flat() -> Record {
-    Record {
-        kind: 2,
-        modes: {
-            let mut m = [0; 16];
-            m[0] = 2;
-            m
-        },
-        ..Record::default()
-    }
+    Record::of_16x16(Luma16x16Mode::Dc, ChromaMode::Dc)
 }
 
 #[test]
@@ -181,7 +165,7 @@ fn every_refusal_has_its_number() {
     assert_eq!(bent(&|m| m.planes[2].truncate(20 * 15 + 15)), Refusal::Room);
     assert_eq!(bent(&|m| m.done.push(0)), Refusal::Room);
     assert_eq!(bent(&|m| m.slices.truncate(3)), Refusal::Room);
-    assert_eq!(bent(&|m| m.progress.count = 5), Refusal::Room);
+    assert_eq!(bent(&|m| m.progress = Progress::at(5, 0)), Refusal::Room);
     assert_eq!(bent(&|m| m.done[0] = 1), Refusal::Done);
 
     let mut memory = Memory::new();
@@ -227,9 +211,9 @@ fn the_smallest_refusal_is_given() {
 fn starting_clears_the_map_and_the_progress() {
     let mut memory = Memory::new();
     memory.done = vec![1, 9, 0, 1];
-    memory.progress = Progress { count: 77, last: 3 };
+    memory.progress = Progress::at(77, 3);
     memory.lend().start().unwrap();
-    assert_eq!((memory.done.clone(), memory.progress), (vec![0; 4], Progress::default()));
+    assert_eq!((memory.done.clone(), memory.progress), (vec![0; 4], Progress::new()));
 
     memory.done = vec![5; 3];
     assert_eq!(memory.lend().start(), Err(Refusal::Room));
@@ -243,7 +227,7 @@ fn padding_is_left_alone_and_counts_follow() {
     let mut memory = Memory::new();
     for a in 0..4 {
         memory.lend().rebuild(a % 2, a / 2, &flat()).unwrap();
-        assert_eq!(memory.progress, Progress { count: a + 1, last: a });
+        assert_eq!(memory.progress, Progress::at(a + 1, a));
     }
     for (plane, (stride, width)) in memory.planes.iter().zip([(40, 32), (20, 16), (20, 16)]) {
         for row in plane.chunks(stride) {
@@ -260,4 +244,50 @@ fn a_picture_that_cannot_be_is_refused_when_it_is_made() {
     assert_eq!(Picture::with_strides(2, 2, vec![0; 4], 31, 16).unwrap_err(), Refusal::Room);
     assert_eq!(Picture::with_strides(2, 2, vec![0; 4], 32, 4097).unwrap_err(), Refusal::Room);
     assert!(Picture::with_strides(120, 68, vec![0; 120 * 68], 4096, 960).is_ok());
+}
+
+#[test]
+fn names_have_the_numbers_of_the_records() {
+    assert_eq!(Kind::ALL.iter().map(|k| k.number()).collect::<Vec<_>>(), [0, 1, 2]);
+    assert_eq!(LumaMode::ALL.iter().map(|m| m.number()).collect::<Vec<_>>(), (0..9).collect::<Vec<_>>());
+    assert_eq!([Luma16x16Mode::Vertical, Luma16x16Mode::Plane].map(u8::from), [0, 3]);
+    assert_eq!([ChromaMode::Dc, ChromaMode::Horizontal, ChromaMode::Vertical, ChromaMode::Plane].map(u8::from), [0, 1, 2, 3]);
+    assert_eq!((LumaMode::from_number(8), LumaMode::from_number(9)), (Some(LumaMode::HorizontalUp), None));
+    assert_eq!((ChromaMode::from_number(3), ChromaMode::from_number(4)), (Some(ChromaMode::Plane), None));
+    assert_eq!(Refusal::ALL.iter().map(|r| r.number()).collect::<Vec<_>>(), (1..=8).collect::<Vec<_>>());
+    assert_eq!(Refusal::from_number(9), None);
+
+    let mut picture = Picture::new(1, 1).unwrap();
+    for record in [
+        Record::of_4x4([LumaMode::Dc; 16], ChromaMode::Dc),
+        Record::of_8x8([LumaMode::Dc; 4], ChromaMode::Dc),
+        Record::of_16x16(Luma16x16Mode::Dc, ChromaMode::Dc),
+    ] {
+        picture.start();
+        picture.rebuild(0, 0, &record).unwrap();
+        assert!(picture.is_finished() && picture.luma().rows().flatten().all(|&v| v == 128));
+    }
+}
+
+#[test]
+#[should_panic(expected = "row 16 of a plane of 16 rows")]
+fn a_row_below_the_plane_panics() {
+    Picture::new(1, 1).unwrap().luma().row(16);
+}
+
+#[test]
+#[should_panic(expected = "of a plane of 16 rows")]
+fn a_row_that_would_wrap_panics() {
+    // A stride of 16 times this number is 2 to the 64th.
+    Picture::new(1, 1).unwrap().luma().row(1 << (usize::BITS - 4));
+}
+
+#[test]
+fn pictures_can_be_sent_and_shared() {
+    fn sent<T: Send>() {}
+    fn shared<T: Sync>() {}
+    sent::<Picture>();
+    shared::<Picture>();
+    sent::<Lent>();
+    sent::<Refusal>();
 }

@@ -27,7 +27,7 @@ impl Account {
 }
 
 fn planes(picture: &Picture) -> (Vec<u8>, Vec<u8>, Vec<u8>) {
-    let all = |p: &jiwarbend::Plane| (0..p.height()).flat_map(|y| p.row(y).to_vec()).collect();
+    let all = |p: &jiwarbend::Plane| p.rows().flatten().copied().collect();
     (all(picture.luma()), all(picture.cb()), all(picture.cr()))
 }
 
@@ -41,27 +41,18 @@ fn bad_call(picture: &mut Picture, coded: &Coded, random: &mut Random, account: 
     let Some((x, y)) = picture.first_undone() else { return };
     let good = &coded.records[(y * coded.w + x) as usize];
     let before = (planes(picture), picture.progress());
-    let mut lent = picture.lend();
     let (wanted, answer) = match random.below(7) {
-        0 => {
-            lent.w = [0, 121, u32::MAX][random.below(3)];
-            (Refusal::Size, lent.rebuild(x, y, good))
-        }
-        1 => (Refusal::Room, lent.rebuild_from(x, y, good.kind, &good.modes, good.chroma_mode, &good.numbers[..383])),
-        2 => (Refusal::Place, lent.rebuild(coded.w, y, good)),
-        3 => (Refusal::Unknown, lent.rebuild(x, y, &Record { kind: 3, ..good.clone() })),
+        0 => (Refusal::Size, Picture::new([0, 121, u32::MAX][random.below(3)], coded.h).map(|_| ())),
+        1 => (Refusal::Room, picture.rebuild_from(x, y, good.kind, &good.modes, good.chroma_mode, &good.numbers[..383])),
+        2 => (Refusal::Place, picture.rebuild(coded.w, y, good)),
+        3 => (Refusal::Unknown, picture.rebuild(x, y, &Record { kind: 3, ..good.clone() })),
         4 => {
             let mut wide = good.clone();
             wide.numbers[random.below(384)] = 32768;
-            (Refusal::Range, lent.rebuild(x, y, &wide))
+            (Refusal::Range, picture.rebuild(x, y, &wide))
         }
-        5 if above_is_absent(coded, x, y) => (Refusal::NotPermitted, lent.rebuild(x, y, &Record { chroma_mode: 2, ..good.clone() })),
-        _ => {
-            lent.progress.count = coded.w * coded.h + 1;
-            let answer = lent.rebuild(x, y, good);
-            lent.progress.count = before.1.count;
-            (Refusal::Room, answer)
-        }
+        5 if above_is_absent(coded, x, y) => (Refusal::NotPermitted, picture.rebuild(x, y, &Record { chroma_mode: 2, ..good.clone() })),
+        _ => (Refusal::Room, picture.rebuild_from(x, y, good.kind, &good.modes[..15], good.chroma_mode, &good.numbers)),
     };
     assert_eq!(answer, Err(wanted), "a bad call has its own refusal");
     assert!((planes(picture), picture.progress()) == before, "a refused call changes nothing");
@@ -119,7 +110,7 @@ fn main() {
                 account.add(answer);
             }
         }
-        let count = picture.progress().count as usize;
+        let count = picture.progress().count() as usize;
         if count * 10 / total > told {
             told = count * 10 / total;
             let offers: usize = account.0.iter().sum();

@@ -1,5 +1,7 @@
 //! What the differential runs, the fixed lists and the benchmark share: numbers at random, records, and pictures over both sides.
 pub mod list;
+#[path = "../../tests/store/mod.rs"]
+pub mod store;
 
 use oracle::driver::{self, Near};
 use oracle::rules;
@@ -12,7 +14,7 @@ impl Random {
         Random(seed.wrapping_mul(0x9e37_79b9_7f4a_7c15) | 1)
     }
 
-    pub fn next(&mut self) -> u64 {
+    pub fn word(&mut self) -> u64 {
         self.0 ^= self.0 << 13;
         self.0 ^= self.0 >> 7;
         self.0 ^= self.0 << 17;
@@ -20,11 +22,11 @@ impl Random {
     }
 
     pub fn below(&mut self, n: usize) -> usize {
-        ((self.next() >> 32) as usize * n) >> 32
+        ((self.word() >> 32) as usize * n) >> 32
     }
 
     pub fn byte(&mut self) -> u8 {
-        (self.next() >> 56) as u8
+        (self.word() >> 56) as u8
     }
 
     pub fn one_in(&mut self, n: usize) -> bool {
@@ -99,16 +101,128 @@ pub fn good_record(random: &mut Random, kind: u8, n: Near) -> Record {
     r
 }
 
+/// How many coefficients a picture has: the share of its macroblocks without any, and the share of 4x4 blocks without any in the others.
+#[derive(Clone, Copy, Debug)]
+pub struct Density {
+    pub bare_macroblocks: f64,
+    pub bare_blocks: f64,
+}
+
+impl Random {
+    fn chance(&mut self, share: f64) -> bool {
+        (self.below(1 << 20) as f64) < share * (1 << 20) as f64
+    }
+
+    /// The coefficients of a block as encoders leave them: three in four blocks have only the first, the rest up to five more near it.
+    fn few_coefficients(&mut self, block: &mut [i32]) {
+        let step = 16 * (1 + self.below(8) as i32);
+        let level = |random: &mut Random| step * (1 + random.below(3) as i32) * random.pick(&[-1, 1]);
+        block[0] = level(self);
+        if self.one_in(4) {
+            for _ in 0..1 + self.below(5) {
+                block[self.pick(&[1, 4, 5, 2, 8, 6, 9])] = level(self);
+            }
+        }
+    }
+}
+
+/// A record of this kind that is acceptable between these neighbours, with as few coefficients as real streams have.
+fn sparse_record(random: &mut Random, kind: u8, n: Near, density: Density) -> Record {
+    let mut r = good_record(random, kind, n);
+    r.numbers.fill(0);
+    if random.chance(density.bare_macroblocks) {
+        return r;
+    }
+    let (luma, chroma) = r.numbers.split_at_mut(256);
+    if kind == 1 {
+        for block in luma.chunks_exact_mut(64) {
+            if !random.chance(density.bare_blocks) {
+                let mut within = |reach: usize| random.below(2 * reach + 1) as i32 - reach as i32;
+                let (first, across, down) = (within(20), within(2), within(2));
+                block.iter_mut().enumerate().for_each(|(i, v)| *v = first + across * (i as i32 % 8) + down * (i as i32 / 8));
+            }
+        }
+    }
+    let coded = if kind == 1 { &mut [] } else { luma };
+    for block in coded.chunks_exact_mut(16).chain(chroma.chunks_exact_mut(16)) {
+        if !random.chance(density.bare_blocks) {
+            random.few_coefficients(block);
+        }
+    }
+    r
+}
+
+/// A sparse record for each macroblock. Of 20 macroblocks 9 are of 4x4, 2 of 8x8 and 9 of 16x16 prediction.
+pub fn sparse_records(random: &mut Random, w: u32, h: u32, slices: &[u16], density: Density) -> Vec<Record> {
+    (0..(w * h) as usize)
+        .map(|a| {
+            let n = driver::near(w as usize, slices, a % w as usize, a / w as usize);
+            let kind = [0, 0, 0, 0, 0, 0, 0, 0, 0, 1, 1, 2, 2, 2, 2, 2, 2, 2, 2, 2][random.below(20)];
+            sparse_record(random, kind, n, density)
+        })
+        .collect()
+}
+
+/// Of 100 blocks of sixteen numbers, how many are all 0.
+pub fn bare_share(records: &[Record]) -> f64 {
+    let blocks = || records.iter().flat_map(|r| r.numbers.chunks_exact(16));
+    100.0 * blocks().filter(|b| b.iter().all(|&v| v == 0)).count() as f64 / blocks().count() as f64
+}
+
+/// A buffer between guards, which no call may write. Two that are compared are compared with their guards.
+#[derive(Clone, Debug, PartialEq, Eq)]
+pub struct Guarded<T>(Vec<T>);
+
+impl<T: Copy + From<u8>> Guarded<T> {
+    const GUARD: usize = 32;
+    const FILL: u8 = 0xa5;
+
+    pub fn new(elements: &[T]) -> Guarded<T> {
+        let mut all = Vec::with_capacity(elements.len() + 2 * Self::GUARD);
+        all.resize(Self::GUARD, Self::FILL.into());
+        all.extend_from_slice(elements);
+        all.resize(elements.len() + 2 * Self::GUARD, Self::FILL.into());
+        Guarded(all)
+    }
+
+    /// A buffer of `len` elements that all have the guards' value.
+    pub fn filled(len: usize) -> Guarded<T> {
+        Guarded(vec![Self::FILL.into(); len + 2 * Self::GUARD])
+    }
+
+    /// The elements between the guards.
+    pub fn inner(&mut self) -> &mut [T] {
+        let end = self.0.len() - Self::GUARD;
+        &mut self.0[Self::GUARD..end]
+    }
+
+    pub fn len(&self) -> usize {
+        self.0.len() - 2 * Self::GUARD
+    }
+
+    pub fn is_empty(&self) -> bool {
+        self.len() == 0
+    }
+
+    /// The first `len` elements, or all of them and zeros behind.
+    pub fn resize(&mut self, len: usize) {
+        let mut elements = self.inner().to_vec();
+        elements.resize(len, 0.into());
+        *self = Guarded::new(&elements);
+    }
+}
+
 /// The memory of a picture, of which both sides get a copy.
 #[derive(Clone, Debug, PartialEq, Eq)]
 pub struct Memory {
     pub w: u32,
     pub h: u32,
-    pub planes: [Vec<u8>; 3],
+    pub planes: [Guarded<u8>; 3],
     pub strides: [usize; 3],
-    pub done: Vec<u8>,
-    pub slices: Vec<u16>,
-    pub progress: (u32, u32),
+    pub done: Guarded<u8>,
+    pub slices: Guarded<u16>,
+    /// The count and the last address.
+    pub progress: Guarded<u32>,
 }
 
 impl Memory {
@@ -116,20 +230,42 @@ impl Memory {
     pub fn new(random: &mut Random, w: u32, h: u32, slices: Vec<u16>, pad: usize) -> Memory {
         let n = (w * h) as usize;
         let mut plane = |side: usize| {
-            let stride = (side * w as usize + pad).min(4096);
+            let stride = side * w as usize + pad;
             let mut samples = vec![0; (side * h as usize - 1) * stride + side * w as usize + pad];
             samples.iter_mut().for_each(|v| *v = random.byte());
-            (samples, stride)
+            (Guarded::new(&samples), stride)
         };
         let [(luma, ls), (cb, cbs), (cr, crs)] = [plane(16), plane(8), plane(8)];
-        Memory { w, h, planes: [luma, cb, cr], strides: [ls, cbs, crs], done: vec![0; n], slices, progress: (0, 0) }
+        Memory {
+            w,
+            h,
+            planes: [luma, cb, cr],
+            strides: [ls, cbs, crs],
+            done: Guarded::new(&vec![0; n]),
+            slices: Guarded::new(&slices),
+            progress: Guarded::new(&[0, 0]),
+        }
+    }
+
+    /// No macroblock is done.
+    pub fn restart(&mut self) {
+        self.done.inner().fill(0);
+        self.progress.inner().fill(0);
+    }
+
+    /// Plane `p` with this stride and just as many bytes as it needs then.
+    pub fn restride(&mut self, p: usize, stride: usize) {
+        let side = [16, 8, 8][p];
+        self.strides[p] = stride;
+        self.planes[p].resize((side * self.h as usize - 1) * stride + side * self.w as usize);
     }
 
     /// A call of the port.
     pub fn port(&mut self, x: u32, y: u32, kind: u8, modes: &[u8], chroma_mode: u8, numbers: &[i32]) -> u32 {
-        let mut progress = jiwarbend::Progress { count: self.progress.0, last: self.progress.1 };
         let [luma, cb, cr] = &mut self.planes;
-        let answer = unsafe {
+        let [luma, cb, cr] = [luma.inner(), cb.inner(), cr.inner()];
+        let (done, slices, progress) = (self.done.inner(), self.slices.inner(), self.progress.inner());
+        unsafe {
             jiwarbend::sys::jiwarbend_rebuild(
                 self.w,
                 self.h,
@@ -144,11 +280,11 @@ impl Memory {
                 cr.as_mut_ptr(),
                 cr.len(),
                 self.strides[2],
-                self.done.as_mut_ptr(),
-                self.done.len(),
-                self.slices.as_ptr(),
-                self.slices.len(),
-                &mut progress,
+                done.as_mut_ptr(),
+                done.len(),
+                slices.as_ptr(),
+                slices.len(),
+                progress.as_mut_ptr().cast(),
                 kind,
                 modes.as_ptr(),
                 modes.len(),
@@ -156,27 +292,39 @@ impl Memory {
                 numbers.as_ptr(),
                 numbers.len(),
             )
-        };
-        self.progress = (progress.count, progress.last);
-        answer
+        }
     }
 
     /// The same call of the driver over the Rust's routines.
     pub fn rust(&mut self, x: u32, y: u32, kind: u8, modes: &[u8], chroma_mode: u8, numbers: &[i32]) -> u32 {
-        let mut progress = driver::Progress { count: self.progress.0, last: self.progress.1 };
+        self.rust_as::<true, false>(x, y, kind, modes, chroma_mode, numbers)
+    }
+
+    /// The same in one of the driver's forms.
+    pub fn rust_as<const CHECKS: bool, const SHORT: bool>(
+        &mut self,
+        x: u32,
+        y: u32,
+        kind: u8,
+        modes: &[u8],
+        chroma_mode: u8,
+        numbers: &[i32],
+    ) -> u32 {
+        let progress = self.progress.inner();
+        let mut after = driver::Progress { count: progress[0], last: progress[1] };
         let [luma, cb, cr] = &mut self.planes;
         let answer = driver::Picture {
             w: self.w,
             h: self.h,
-            luma: driver::Plane { samples: luma, stride: self.strides[0] },
-            cb: driver::Plane { samples: cb, stride: self.strides[1] },
-            cr: driver::Plane { samples: cr, stride: self.strides[2] },
-            done: &mut self.done,
-            slices: &self.slices,
-            progress: &mut progress,
+            luma: driver::Plane { samples: luma.inner(), stride: self.strides[0] },
+            cb: driver::Plane { samples: cb.inner(), stride: self.strides[1] },
+            cr: driver::Plane { samples: cr.inner(), stride: self.strides[2] },
+            done: self.done.inner(),
+            slices: self.slices.inner(),
+            progress: &mut after,
         }
-        .rebuild(x, y, kind, modes, chroma_mode, numbers);
-        self.progress = (progress.count, progress.last);
+        .rebuild_as::<CHECKS, SHORT>(x, y, kind, modes, chroma_mode, numbers);
+        progress.copy_from_slice(&[after.count, after.last]);
         answer
     }
 }
@@ -186,7 +334,7 @@ pub fn slice_map(random: &mut Random, w: u32, h: u32) -> Vec<u16> {
     let n = (w * h) as usize;
     let run = 1 + random.below(n);
     match random.below(4) {
-        0 => vec![random.next() as u16; n],
+        0 => vec![random.word() as u16; n],
         1 => (0..n).map(|a| (a / run) as u16).collect(),
         2 => (0..n).map(|a| (a / w as usize) as u16).collect(),
         _ => (0..n).map(|_| random.below(2) as u16).collect(),

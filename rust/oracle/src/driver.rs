@@ -1,4 +1,7 @@
 //! A driver over whole pictures that calls the Rust's routines: the rules' checks in their order, then the macroblock.
+//!
+//! It comes in forms for the benchmark. `CHECKS` says whether refusals 6 to 8 are looked for. `SHORT` gives 4x4 blocks whose only
+//! coefficient is the first, or which have none, to the Rust's routine for one residual, which needs no inverse.
 use crate::predict::{self, I16Mode, CHROMA_4X4_SCAN_XY, LUMA_4X4_SCAN_XY};
 use crate::rules::{self, Marks};
 
@@ -83,6 +86,19 @@ impl Picture<'_> {
 
     /// Rebuilds the macroblock in column `x` and row `y`, or answers the refusal.
     pub fn rebuild(&mut self, x: u32, y: u32, kind: u8, modes: &[u8], chroma_mode: u8, numbers: &[i32]) -> u32 {
+        self.rebuild_as::<true, false>(x, y, kind, modes, chroma_mode, numbers)
+    }
+
+    /// The same in one of the benchmark's forms.
+    pub fn rebuild_as<const CHECKS: bool, const SHORT: bool>(
+        &mut self,
+        x: u32,
+        y: u32,
+        kind: u8,
+        modes: &[u8],
+        chroma_mode: u8,
+        numbers: &[i32],
+    ) -> u32 {
         if !sized(self.w, self.h) {
             return 1;
         }
@@ -101,7 +117,8 @@ impl Picture<'_> {
         if !self.ready(at, n) {
             return 5;
         }
-        let answer = macroblock([&mut self.luma, &mut self.cb, &mut self.cr], (x, y), n, kind, modes, chroma_mode, numbers);
+        let planes = [&mut self.luma, &mut self.cb, &mut self.cr];
+        let answer = macroblock_as::<CHECKS, SHORT>(planes, (x, y), n, kind, modes, chroma_mode, numbers);
         if answer != 0 {
             return answer;
         }
@@ -114,6 +131,18 @@ impl Picture<'_> {
 
 /// Rebuilds the macroblock at `(x, y)` of luma, Cb and Cr, which lies in them with its available neighbours `n`, or answers 6, 7 or 8.
 pub fn macroblock(
+    planes: [&mut Plane; 3],
+    place: (usize, usize),
+    n: Near,
+    kind: u8,
+    modes: &[u8],
+    chroma_mode: u8,
+    numbers: &[i32],
+) -> u32 {
+    macroblock_as::<true, false>(planes, place, n, kind, modes, chroma_mode, numbers)
+}
+
+fn macroblock_as<const CHECKS: bool, const SHORT: bool>(
     [luma, cb, cr]: [&mut Plane; 3],
     (x, y): (usize, usize),
     n: Near,
@@ -122,23 +151,35 @@ pub fn macroblock(
     chroma_mode: u8,
     numbers: &[i32],
 ) -> u32 {
-    if !known(kind, modes, chroma_mode) {
-        return 6;
-    }
-    if !permitted(kind, modes, chroma_mode, n) {
-        return 7;
-    }
-    if !numbers.iter().all(|v| (rules::LOW..=rules::HIGH).contains(v)) {
-        return 8;
+    if CHECKS {
+        if !known(kind, modes, chroma_mode) {
+            return 6;
+        }
+        if !permitted(kind, modes, chroma_mode, n) {
+            return 7;
+        }
+        if rules::in_range(numbers).is_err() {
+            return 8;
+        }
     }
     match kind {
-        0 => blocks_4x4(luma, x, y, n, modes, numbers),
+        0 => blocks_4x4::<SHORT>(luma, x, y, n, modes, numbers),
         1 => blocks_8x8(luma, x, y, n, modes, numbers),
-        _ => block_16x16(luma, x, y, n, modes[0], numbers),
+        _ => block_16x16::<SHORT>(luma, x, y, n, modes[0], numbers),
     }
-    chroma(cb, x, y, n, chroma_mode, &numbers[256..320]);
-    chroma(cr, x, y, n, chroma_mode, &numbers[320..384]);
+    chroma::<SHORT>(cb, x, y, n, chroma_mode, &numbers[256..320]);
+    chroma::<SHORT>(cr, x, y, n, chroma_mode, &numbers[320..384]);
     0
+}
+
+/// A 4x4 block's prediction and residual into the plane.
+fn reconstruct<const SHORT: bool>(deq: &[i32], pred: &[u8], p_off: usize, p_stride: usize, p: &mut Plane, at: usize) {
+    let deq: &[i32; 16] = deq.try_into().unwrap();
+    if SHORT && deq[1..].iter().fold(0, |all, v| all | v) == 0 {
+        predict::reconstruct_4x4_dc_into((deq[0] + 32) >> 6, pred, p_off, p_stride, p.samples, at, p.stride);
+    } else {
+        predict::reconstruct_4x4_into(deq, pred, p_off, p_stride, p.samples, at, p.stride);
+    }
 }
 
 fn known(kind: u8, modes: &[u8], chroma_mode: u8) -> bool {
@@ -206,7 +247,7 @@ fn corner(p: &Plane, at: usize, there: bool) -> u8 {
     }
 }
 
-fn blocks_4x4(p: &mut Plane, x: usize, y: usize, n: Near, modes: &[u8], numbers: &[i32]) {
+fn blocks_4x4<const SHORT: bool>(p: &mut Plane, x: usize, y: usize, n: Near, modes: &[u8], numbers: &[i32]) {
     for (k, &(bx, by)) in LUMA_4X4_SCAN_XY.iter().enumerate() {
         let m = marks(bx, by, n);
         let right = match k {
@@ -219,8 +260,7 @@ fn blocks_4x4(p: &mut Plane, x: usize, y: usize, n: Near, modes: &[u8], numbers:
         let top = above::<8>(p, at, m.above, right);
         let column = left::<4>(p, at, m.left);
         let pred = predict::intra4x4_pred(modes[k], m.above, m.left, &top, &column, corner(p, at, m.corner));
-        let deq: &[i32; 16] = numbers[16 * k..][..16].try_into().unwrap();
-        predict::reconstruct_4x4_into(deq, &pred, 0, 4, p.samples, at, p.stride);
+        reconstruct::<SHORT>(&numbers[16 * k..][..16], &pred, 0, 4, p, at);
     }
 }
 
@@ -241,26 +281,24 @@ fn blocks_8x8(p: &mut Plane, x: usize, y: usize, n: Near, modes: &[u8], numbers:
     }
 }
 
-fn block_16x16(p: &mut Plane, x: usize, y: usize, n: Near, mode: u8, numbers: &[i32]) {
+fn block_16x16<const SHORT: bool>(p: &mut Plane, x: usize, y: usize, n: Near, mode: u8, numbers: &[i32]) {
     let at = y * 16 * p.stride + x * 16;
     let top: [u8; 16] = if n.b { p.samples[at - p.stride..][..16].try_into().unwrap() } else { [0; 16] };
     let column = left::<16>(p, at, n.a);
     let pred = predict::luma16x16_pred(I16Mode::from_id(mode as u32), n.b, n.a, &top, &column, corner(p, at, n.d));
     for (k, &(bx, by)) in LUMA_4X4_SCAN_XY.iter().enumerate() {
-        let deq: &[i32; 16] = numbers[16 * k..][..16].try_into().unwrap();
         let to = at + by * 4 * p.stride + bx * 4;
-        predict::reconstruct_4x4_into(deq, &pred, by * 64 + bx * 4, 16, p.samples, to, p.stride);
+        reconstruct::<SHORT>(&numbers[16 * k..][..16], &pred, by * 64 + bx * 4, 16, p, to);
     }
 }
 
-fn chroma(p: &mut Plane, x: usize, y: usize, n: Near, mode: u8, numbers: &[i32]) {
+fn chroma<const SHORT: bool>(p: &mut Plane, x: usize, y: usize, n: Near, mode: u8, numbers: &[i32]) {
     let at = y * 8 * p.stride + x * 8;
     let top: [u8; 8] = if n.b { p.samples[at - p.stride..][..8].try_into().unwrap() } else { [0; 8] };
     let column = left::<8>(p, at, n.a);
     let pred = predict::chroma8x8_pred(mode, n.b, n.a, &top, &column, corner(p, at, n.d));
     for (k, &(bx, by)) in CHROMA_4X4_SCAN_XY.iter().enumerate() {
-        let deq: &[i32; 16] = numbers[16 * k..][..16].try_into().unwrap();
         let to = at + by * 4 * p.stride + bx * 4;
-        predict::reconstruct_4x4_into(deq, &pred, by * 32 + bx * 4, 8, p.samples, to, p.stride);
+        reconstruct::<SHORT>(&numbers[16 * k..][..16], &pred, by * 32 + bx * 4, 8, p, to);
     }
 }

@@ -18,7 +18,7 @@ impl Marks {
     }
 }
 
-/// The modes that the rules permits for 4x4 and 8x8 luma blocks.
+/// The modes that the rules permit for 4x4 and 8x8 luma blocks.
 pub fn permitted_nxn(mode: u8, m: Marks) -> bool {
     match mode {
         0 | 3 | 7 => m.above,
@@ -66,31 +66,49 @@ fn known(mode: u8, last: u8, permitted: bool) -> Result<(), u32> {
     Ok(())
 }
 
-fn in_range(numbers: &[i32]) -> Result<(), u32> {
-    if numbers.iter().all(|n| (LOW..=HIGH).contains(n)) {
+/// The least and the greatest number are kept and looked at once: a way out at the first bad number would keep the loop from being
+/// computed several numbers at a time.
+pub fn in_range(numbers: &[i32]) -> Result<(), u32> {
+    let (least, greatest) = numbers.iter().fold((0, 0), |(least, greatest), &n| (n.min(least), n.max(greatest)));
+    if LOW <= least && greatest <= HIGH {
         Ok(())
     } else {
         Err(8)
     }
 }
 
+/// What a 4x4 or 8x8 predictor refuses: an unknown mode, or one that the marks do not permit.
+pub fn mode_nxn(mode: u8, m: Marks) -> Result<(), u32> {
+    known(mode, 8, permitted_nxn(mode, m))
+}
+
+/// The same for 16x16 luma blocks.
+pub fn mode_16x16(mode: u8, m: Marks) -> Result<(), u32> {
+    known(mode, 3, permitted_16x16(mode, m))
+}
+
+/// The same for chroma blocks.
+pub fn mode_chroma(mode: u8, m: Marks) -> Result<(), u32> {
+    known(mode, 3, permitted_chroma(mode, m))
+}
+
 pub fn intra4x4_pred(mode: u8, m: Marks, top: &[u8; 8], left: &[u8; 4], corner: u8) -> Result<[u8; 16], u32> {
-    known(mode, 8, permitted_nxn(mode, m))?;
+    mode_nxn(mode, m)?;
     Ok(predict::intra4x4_pred(mode, m.above, m.left, top, left, corner))
 }
 
 pub fn intra8x8_pred(mode: u8, m: Marks, top: &[u8; 16], left: &[u8; 8], corner: u8) -> Result<[u8; 64], u32> {
-    known(mode, 8, permitted_nxn(mode, m))?;
+    mode_nxn(mode, m)?;
     Ok(predict::intra8x8_pred(mode, m.above, m.left, m.corner, top, left, corner))
 }
 
 pub fn luma16x16_pred(mode: u8, m: Marks, top: &[u8; 16], left: &[u8; 16], corner: u8) -> Result<[u8; 256], u32> {
-    known(mode, 3, permitted_16x16(mode, m))?;
+    mode_16x16(mode, m)?;
     Ok(predict::luma16x16_pred(predict::I16Mode::from_id(mode as u32), m.above, m.left, top, left, corner))
 }
 
 pub fn chroma8x8_pred(mode: u8, m: Marks, top: &[u8; 8], left: &[u8; 8], corner: u8) -> Result<[u8; 64], u32> {
-    known(mode, 3, permitted_chroma(mode, m))?;
+    mode_chroma(mode, m)?;
     Ok(predict::chroma8x8_pred(mode, m.above, m.left, top, left, corner))
 }
 

@@ -1,34 +1,47 @@
-//! The port and the Rust side by side in one run, on the same inputs, and beside them the Rust behind the port's checks. They are timed in
-//! turns, many times; what is told is the median of the ratios with the quartiles around it. With a folder as its argument it writes
-//! a table and a plot there. Where valgrind is installed the table also has the instructions of each side: valgrind runs this program
-//! again with `count`, which makes each call a fixed number of times and times nothing.
-use harness::{good_records, slice_map, Memory, Random, Record};
+//! The port and the Rust side by side in one run, on the same inputs. The Rust comes in the best forms that are known for it: with the same
+//! checks as the port, without them, and for pictures also with a short way for blocks of no or one coefficient. All are timed in turns,
+//! many times; what is told is the median of the ratios with the quartiles around it.
+//!
+//! `bench FOLDER [ROUNDS]` writes table.md, headline.md and benchmark.svg into the folder. Where valgrind is installed the table also has
+//! the instructions of each side: valgrind runs this program again with `count`, which makes each call a fixed number of times and times
+//! nothing.
+use harness::{bare_share, good_records, slice_map, sparse_records, Density, Memory, Random, Record};
 use jiwarbend::sys::*;
 use oracle::predict::{self, I16Mode};
 use oracle::rules::{self, Marks, Square};
-use oracle::{intra_pred, transform};
+use oracle::{driver, intra_pred, transform};
 use std::fmt::Write;
 use std::hint::black_box;
 use std::path::Path;
 use std::process::{Command, Stdio};
 use std::time::Instant;
 
-const ROUNDS: usize = 41;
 const INPUTS: usize = 256;
 
-#[derive(Default)]
+/// The sides: the Rust with the port's checks, the Rust without them, the port, and for pictures the Rust that takes short cuts.
+const CHECKED: usize = 0;
+const BARE: usize = 1;
+const PORT: usize = 2;
+const SHORT: usize = 3;
+
+/// The port's time as a share of one side's: the median and the quartiles.
+#[derive(Clone, Copy)]
+struct Ratio {
+    low: f64,
+    middle: f64,
+    high: f64,
+}
+
 struct Row {
     group: &'static str,
     name: String,
     per: f64,
-    rust: f64,
-    checked: f64,
-    port: f64,
-    low: f64,
-    ratio: f64,
-    high: f64,
-    instructions: Option<[f64; 3]>,
+    times: Vec<f64>,
+    ratios: Vec<Ratio>,
+    instructions: Option<Vec<f64>>,
 }
+
+type Timed<'a> = &'a mut dyn FnMut(usize);
 
 fn nanoseconds(calls: usize, f: &mut dyn FnMut(usize)) -> f64 {
     let from = Instant::now();
@@ -38,15 +51,21 @@ fn nanoseconds(calls: usize, f: &mut dyn FnMut(usize)) -> f64 {
     from.elapsed().as_nanos() as f64 / calls as f64
 }
 
-fn median(values: &mut [f64], share: f64) -> f64 {
+fn share_of(values: &mut [f64], share: f64) -> f64 {
     values.sort_by(f64::total_cmp);
     values[((values.len() - 1) as f64 * share).round() as usize]
 }
 
-type Timed<'a> = &'a mut dyn FnMut(usize);
+fn argument(k: usize) -> Option<String> {
+    std::env::args().nth(k)
+}
 
 fn counting() -> bool {
-    std::env::args().nth(1).as_deref() == Some("count")
+    argument(1).as_deref() == Some("count")
+}
+
+fn rounds() -> usize {
+    argument(2).map_or(41, |n| n.parse().expect("a number of rounds"))
 }
 
 /// How many calls are counted: one for each input, or one whole picture.
@@ -97,53 +116,43 @@ fn instructions(folder: &Path) -> Option<Vec<f64>> {
     Some((2..).step_by(2).map_while(since_last).collect())
 }
 
-/// Times the three in turns, in batches of about a millisecond, each of `per` units of work.
-fn compare(group: &'static str, name: String, per: f64, rust: Timed, checked: Timed, port: Timed) -> Row {
+/// Times the sides in turns, in batches of about a millisecond, each call of `per` units of work. Every round another side is first.
+fn compare(group: &'static str, name: String, per: f64, mut sides: Vec<Timed>) -> Row {
+    let count = sides.len();
     if counting() {
-        counted_calls(counted(per), rust);
-        counted_calls(counted(per), checked);
-        counted_calls(counted(per), port);
-        return Row { group, name, per, ..Row::default() };
+        sides.iter_mut().for_each(|side| counted_calls(counted(per), side));
+        return Row { group, name, per, times: vec![0.0; count], ratios: Vec::new(), instructions: None };
     }
-    let once = nanoseconds(1, rust).max(nanoseconds(1, rust)).max(1.0);
+    let once = nanoseconds(1, sides[CHECKED]).max(nanoseconds(1, sides[CHECKED])).max(1.0);
     let calls = ((1e6 / once) as usize).clamp(1, 20_000);
-    let (mut rusts, mut checks, mut ports, mut ratios) = (Vec::new(), Vec::new(), Vec::new(), Vec::new());
-    for round in 0..ROUNDS + 2 {
-        let (r, p) = if round % 2 == 0 {
-            let r = nanoseconds(calls, rust);
-            (r, nanoseconds(calls, port))
-        } else {
-            let p = nanoseconds(calls, port);
-            (nanoseconds(calls, rust), p)
-        };
-        let c = nanoseconds(calls, checked);
-        if round >= 2 {
-            rusts.push(r / per);
-            checks.push(c / per);
-            ports.push(p / per);
-            ratios.push(p / r);
+    let (mut times, mut ratios) = (vec![Vec::new(); count], vec![Vec::new(); count]);
+    for round in 0..rounds() + 2 {
+        let mut now = vec![0.0; count];
+        for turn in 0..count {
+            let side = (round + turn) % count;
+            now[side] = nanoseconds(calls, sides[side]);
+        }
+        // The first two rounds warm the caches.
+        for side in (0..count).filter(|_| round >= 2) {
+            times[side].push(now[side] / per);
+            ratios[side].push(now[PORT] / now[side]);
         }
     }
-    let row = Row {
-        group,
-        name,
-        per,
-        rust: median(&mut rusts, 0.5),
-        checked: median(&mut checks, 0.5),
-        port: median(&mut ports, 0.5),
-        low: median(&mut ratios, 0.25),
-        ratio: median(&mut ratios, 0.5),
-        high: median(&mut ratios, 0.75),
-        instructions: None,
-    };
+    let ratio = |r: &mut Vec<f64>| Ratio { low: share_of(r, 0.25), middle: share_of(r, 0.5), high: share_of(r, 0.75) };
+    let times: Vec<f64> = times.iter_mut().map(|t| share_of(t, 0.5)).collect();
+    let ratios: Vec<Ratio> = ratios.iter_mut().map(ratio).collect();
     println!(
-        "{:<30} Rust {:>8.1} ns, with checks {:>8.1} ns, port {:>8.1} ns: {:.2} of the Rust ({:.2} to {:.2})",
-        row.name, row.rust, row.checked, row.port, row.ratio, row.low, row.high
+        "{name:<38} Rust with checks {:>8.1} ns, without {:>8.1} ns, port {:>8.1} ns: {:.2} and {:.2} of the Rust",
+        times[CHECKED], times[BARE], times[PORT], ratios[CHECKED].middle, ratios[BARE].middle
     );
-    row
+    Row { group, name, per, times, ratios, instructions: None }
 }
 
-const ALL: Marks = Marks { above: true, left: true, corner: true };
+/// All three marks, which the compiler does not know.
+fn marks() -> Marks {
+    let there = black_box(true);
+    Marks { above: there, left: there, corner: there }
+}
 
 /// The samples of many neighbourhoods and blocks.
 struct Inputs {
@@ -179,30 +188,36 @@ fn predictor<const T: usize, const L: usize, const B: usize>(
     name: &str,
     modes: u8,
     export: Predictor,
-    rust: impl Fn(u8, &[u8; T], &[u8; L], u8) -> [u8; B],
-    checked: impl Fn(u8, Marks, &[u8; T], &[u8; L], u8) -> Result<[u8; B], u32>,
+    rust: impl Fn(u8, Marks, &[u8; T], &[u8; L], u8) -> [u8; B],
+    check: impl Fn(u8, Marks) -> Result<(), u32>,
 ) -> Vec<Row> {
     let one = |mode: u8| {
-        let (mut ours, mut theirs) = ([0; B], [0; B]);
-        let mut last = Ok([0; B]);
+        let mut ours = [0; B];
         compare(
             "prediction",
             format!("{name}, mode {mode}"),
             1.0,
-            &mut |i| {
-                theirs = rust(black_box(mode), inputs.part(i, 0), inputs.part(i, T), inputs.bytes[i][39]);
-                black_box(&theirs);
-            },
-            &mut |i| {
-                last = checked(black_box(mode), ALL, inputs.part(i, 0), inputs.part(i, T), inputs.bytes[i][39]);
-                black_box(&last).as_ref().unwrap();
-            },
-            &mut |i| {
-                let (top, left): (&[u8; T], &[u8; L]) = (inputs.part(i, 0), inputs.part(i, T));
-                let (t, l, o) = (top.as_ptr(), left.as_ptr(), ours.as_mut_ptr());
-                let answer = unsafe { export(black_box(mode), ALL.above, ALL.left, ALL.corner, t, T, l, L, inputs.bytes[i][39], o, B) };
-                black_box((answer, &ours));
-            },
+            vec![
+                &mut |i| {
+                    let (mode, m) = (black_box(mode), marks());
+                    if let Err(refusal) = check(mode, m) {
+                        panic!("{refusal}");
+                    }
+                    let block = rust(mode, m, inputs.part(i, 0), inputs.part(i, T), inputs.bytes[i][39]);
+                    black_box(&block);
+                },
+                &mut |i| {
+                    let block = rust(black_box(mode), marks(), inputs.part(i, 0), inputs.part(i, T), inputs.bytes[i][39]);
+                    black_box(&block);
+                },
+                &mut |i| {
+                    let (top, left): (&[u8; T], &[u8; L]) = (inputs.part(i, 0), inputs.part(i, T));
+                    let (m, t, l, o) = (marks(), top.as_ptr(), left.as_ptr(), ours.as_mut_ptr());
+                    let answer = unsafe { export(black_box(mode), m.above, m.left, m.corner, t, T, l, L, inputs.bytes[i][39], o, B) };
+                    assert_eq!(answer, 0);
+                    black_box(&ours);
+                },
+            ],
         )
     };
     (0..modes).map(one).collect()
@@ -217,25 +232,23 @@ fn mean<const N: usize, const B: usize>(
     export: Mean,
     rust: impl Fn(bool, bool, &[u8; N], &[u8; N]) -> [u8; B],
 ) -> Row {
-    let (mut ours, mut theirs, mut last) = ([0; B], [0; B], [0; B]);
+    let mut ours = [0; B];
+    let theirs = |i: usize| {
+        let m = marks();
+        let block = rust(m.above, m.left, inputs.part(i, 0), inputs.part(i, N));
+        black_box(&block);
+    };
     compare(
         "prediction",
         name.into(),
         1.0,
-        &mut |i| {
-            theirs = rust(black_box(true), black_box(true), inputs.part(i, 0), inputs.part(i, N));
-            black_box(&theirs);
-        },
-        &mut |i| {
-            last = rust(black_box(true), black_box(true), inputs.part(i, 0), inputs.part(i, N));
-            black_box(&last);
-        },
-        &mut |i| {
+        vec![&mut |i| theirs(i), &mut |i| theirs(i), &mut |i| {
             let (top, left): (&[u8; N], &[u8; N]) = (inputs.part(i, 0), inputs.part(i, N));
-            let (t, l, o) = (top.as_ptr(), left.as_ptr(), ours.as_mut_ptr());
-            let answer = unsafe { export(black_box(true), black_box(true), t, N, l, N, o, B) };
-            black_box((answer, &ours));
-        },
+            let (m, t, l, o) = (marks(), top.as_ptr(), left.as_ptr(), ours.as_mut_ptr());
+            let answer = unsafe { export(m.above, m.left, t, N, l, N, o, B) };
+            assert_eq!(answer, 0);
+            black_box(&ours);
+        }],
     )
 }
 
@@ -250,356 +263,330 @@ fn from_plane<const B: usize>(
     checked: impl Fn(u8, &mut [u8], &[u8], usize, usize) -> Result<(), u32>,
 ) -> Vec<Row> {
     let one = |&mode: &u8| {
-        let (mut ours, mut theirs, mut last) = ([0; B], [0; B], [0; B]);
+        let (mut a, mut b, mut ours) = ([0; B], [0; B], [0; B]);
         let plane = &inputs.plane;
         compare(
             "prediction",
             format!("{name}, mode {mode}"),
             1.0,
-            &mut |i| {
-                rust(black_box(mode), &mut theirs, plane, 65 + i, black_box(64));
-                black_box(&theirs);
-            },
-            &mut |i| {
-                checked(black_box(mode), &mut last, plane, 65 + i, black_box(64)).unwrap();
-                black_box(&last);
-            },
-            &mut |i| {
-                let (p, r) = (ours.as_mut_ptr(), plane.as_ptr());
-                let answer = unsafe { export(black_box(mode), p, B, r, plane.len(), 65 + i, black_box(64)) };
-                black_box((answer, &ours));
-            },
+            vec![
+                &mut |i| {
+                    checked(black_box(mode), &mut a, plane, 65 + i, black_box(64)).unwrap();
+                    black_box(&a);
+                },
+                &mut |i| {
+                    rust(black_box(mode), &mut b, plane, 65 + i, black_box(64));
+                    black_box(&b);
+                },
+                &mut |i| {
+                    let (p, r) = (ours.as_mut_ptr(), plane.as_ptr());
+                    let answer = unsafe { export(black_box(mode), p, B, r, plane.len(), 65 + i, black_box(64)) };
+                    assert_eq!(answer, 0);
+                    black_box(&ours);
+                },
+            ],
         )
     };
     modes.iter().map(one).collect()
-}
-
-// The Rust's small routines are marked to be inlined. Both sides are timed as functions that are called.
-#[inline(never)]
-fn clip_u8(v: i32) -> u8 {
-    predict::clip_u8(v)
-}
-
-#[inline(never)]
-fn chroma_qp(qp: u8) -> u8 {
-    predict::chroma_qp(qp)
-}
-
-#[inline(never)]
-fn nc_from_neighbors(a: Option<u8>, b: Option<u8>) -> i32 {
-    predict::nc_from_neighbors(a, b)
-}
-
-#[inline(never)]
-fn nnz_raster_from_z(n: &[u8; 24]) -> [u8; 24] {
-    predict::nnz_raster_from_z(n)
-}
-
-#[inline(never)]
-fn inverse_core(deq: &[i32; 16]) -> [i32; 16] {
-    transform::inverse_core(deq)
-}
-
-#[inline(never)]
-fn luma16x16_dc(above: bool, beside: bool, top: &[u8; 16], left: &[u8; 16]) -> [u8; 1] {
-    [predict::luma16x16_dc(above, beside, top, left)]
-}
-
-#[inline(never)]
-fn chroma8x8_dc(above: bool, beside: bool, top: &[u8; 8], left: &[u8; 8]) -> [u8; 64] {
-    predict::chroma8x8_dc(above, beside, top, left)
-}
-
-#[inline(never)]
-fn add_residual_4x4(res: &[i32; 16], pred: &[i32; 16]) -> [u8; 16] {
-    predict::add_residual_4x4(res, pred)
-}
-
-#[inline(never)]
-fn reconstruct_4x4_into(deq: &[i32; 16], pred: &[u8], p: (usize, usize), rec: &mut [u8], r: (usize, usize)) {
-    predict::reconstruct_4x4_into(deq, pred, p.0, p.1, rec, r.0, r.1)
-}
-
-#[inline(never)]
-fn reconstruct_4x4_dc_into(rval: i32, pred: &[u8], p: (usize, usize), rec: &mut [u8], r: (usize, usize)) {
-    predict::reconstruct_4x4_dc_into(rval, pred, p.0, p.1, rec, r.0, r.1)
-}
-
-#[inline(never)]
-fn add_residual_4x4_into(res: &[i32; 16], pred: &[u8], p: (usize, usize), rec: &mut [u8], r: (usize, usize)) {
-    predict::add_residual_4x4_into(res, pred, p.0, p.1, rec, r.0, r.1)
 }
 
 fn first<const N: usize>(of: &[i32; 64]) -> &[i32; N] {
     of[..N].try_into().unwrap()
 }
 
+/// A routine without checks, so that both forms of the Rust are one.
+fn plain(name: &str, rust: impl Fn(usize), port: Timed) -> Row {
+    compare("small", name.into(), 1.0, vec![&mut |i| rust(i), &mut |i| rust(i), port])
+}
+
+/// A set of permitted modes. The Rust answers mode by mode; as its best form these are masks.
+fn set(name: &str, export: unsafe extern "C" fn(bool, bool, bool) -> u16, any: u16, above: u16, left: u16, all: u16) -> Row {
+    let mask = |m: Marks| {
+        let part = |there: bool, bits: u16| if there { bits } else { 0 };
+        any | part(m.above, above) | part(m.left, left) | part(m.above && m.left && m.corner, all)
+    };
+    let eight: Vec<Marks> = Marks::all().collect();
+    for &m in &eight {
+        assert_eq!(mask(m), unsafe { export(m.above, m.left, m.corner) });
+    }
+    let port = |i: usize| {
+        let m = black_box(eight[i % 8]);
+        black_box(unsafe { export(m.above, m.left, m.corner) });
+    };
+    let rust = |i: usize| {
+        black_box(mask(black_box(eight[i % 8])));
+    };
+    plain(name, rust, &mut |i| port(i))
+}
+
 fn small(inputs: &Inputs) -> Vec<Row> {
     let byte = |i: usize| inputs.bytes[i][0];
-    let mut rows = Vec::new();
-    rows.push(compare(
-        "small",
-        "clip_u8".into(),
-        1.0,
-        &mut |i| {
-            black_box(clip_u8(inputs.numbers[i][0]));
-        },
-        &mut |i| {
-            black_box(clip_u8(inputs.numbers[i][0]));
-        },
-        &mut |i| {
-            black_box(unsafe { jiwarbend_clip_u8(inputs.numbers[i][0]) });
-        },
-    ));
-    rows.push(compare(
-        "small",
-        "chroma_qp".into(),
-        1.0,
-        &mut |i| {
-            black_box(chroma_qp(byte(i)));
-        },
-        &mut |i| {
-            black_box(chroma_qp(byte(i)));
-        },
-        &mut |i| {
-            black_box(unsafe { jiwarbend_chroma_qp(byte(i)) });
-        },
-    ));
-    rows.push(compare(
-        "small",
-        "nc_from_neighbors".into(),
-        1.0,
-        &mut |i| {
-            black_box(nc_from_neighbors((i % 3 > 0).then_some(byte(i)), (i % 5 > 0).then_some(byte(i))));
-        },
-        &mut |i| {
-            black_box(nc_from_neighbors((i % 3 > 0).then_some(byte(i)), (i % 5 > 0).then_some(byte(i))));
-        },
-        &mut |i| {
-            black_box(unsafe { jiwarbend_nc_from_neighbors(i % 3 > 0, byte(i), i % 5 > 0, byte(i)) });
-        },
-    ));
-    let (mut ours, mut theirs, mut last) = ([0; 24], [0; 24], [0; 24]);
-    rows.push(compare(
-        "small",
-        "nnz_raster_from_z".into(),
-        1.0,
-        &mut |i| {
-            theirs = nnz_raster_from_z(inputs.part(i, 0));
-            black_box(&theirs);
-        },
-        &mut |i| {
-            last = nnz_raster_from_z(inputs.part(i, 0));
-            black_box(&last);
-        },
-        &mut |i| {
-            let n: &[u8; 24] = inputs.part(i, 0);
-            black_box(unsafe { jiwarbend_nnz_raster_from_z(n.as_ptr(), 24, ours.as_mut_ptr(), 24) });
-            black_box(&ours);
-        },
-    ));
-    rows
+    let beside = |i: usize| ((i % 3 > 0).then_some(byte(i)), (i % 5 > 0).then_some(byte(i)));
+    let mut ours = [0; 24];
+    let mut maps = [vec![1; 120 * 68], vec![1; 120 * 68], vec![1; 120 * 68]];
+    let [checked_map, bare_map, port_map] = &mut maps;
+    let start = |map: &mut Vec<u8>| {
+        let mut progress = driver::Progress { count: 7, last: 7 };
+        assert_eq!(driver::start(black_box(120), black_box(68), map, &mut progress), 0);
+        black_box((map, progress));
+    };
+    vec![
+        plain(
+            "clip_u8",
+            |i| {
+                black_box(predict::clip_u8(inputs.numbers[i][0]));
+            },
+            &mut |i| {
+                black_box(unsafe { jiwarbend_clip_u8(inputs.numbers[i][0]) });
+            },
+        ),
+        plain(
+            "chroma_qp",
+            |i| {
+                black_box(predict::chroma_qp(byte(i)));
+            },
+            &mut |i| {
+                black_box(unsafe { jiwarbend_chroma_qp(byte(i)) });
+            },
+        ),
+        plain(
+            "nc_from_neighbors",
+            |i| {
+                let (a, b) = black_box(beside(i));
+                black_box(predict::nc_from_neighbors(a, b));
+            },
+            &mut |i| {
+                let (a, b) = black_box(beside(i));
+                black_box(unsafe { jiwarbend_nc_from_neighbors(a.is_some(), a.unwrap_or(0), b.is_some(), b.unwrap_or(0)) });
+            },
+        ),
+        plain(
+            "nnz_raster_from_z",
+            |i| {
+                let block = predict::nnz_raster_from_z(inputs.part(i, 0));
+                black_box(&block);
+            },
+            &mut |i| {
+                let n: &[u8; 24] = inputs.part(i, 0);
+                let answer = unsafe { jiwarbend_nnz_raster_from_z(n.as_ptr(), 24, ours.as_mut_ptr(), 24) };
+                assert_eq!(answer, 0);
+                black_box(&ours);
+            },
+        ),
+        set("permitted_4x4", jiwarbend_permitted_4x4, 1 << 2, 0b1000_1001, 0b1_0000_0010, 0b111_0000),
+        set("permitted_8x8", jiwarbend_permitted_8x8, 1 << 2, 0b1000_1001, 0b1_0000_0010, 0b111_0000),
+        set("permitted_16x16", jiwarbend_permitted_16x16, 1 << 2, 1, 1 << 1, 1 << 3),
+        set("permitted_chroma", jiwarbend_permitted_chroma, 1, 1 << 2, 1 << 1, 1 << 3),
+        compare(
+            "small",
+            "start, 120 by 68 macroblocks".into(),
+            1.0,
+            vec![&mut |_| start(checked_map), &mut |_| start(bare_map), &mut |_| {
+                let mut progress = Progress { count: 7, last: 7 };
+                let answer = unsafe { jiwarbend_start(120, 68, port_map.as_mut_ptr(), port_map.len(), &mut progress) };
+                assert_eq!(answer, 0);
+                black_box((&port_map, progress));
+            }],
+        ),
+    ]
 }
 
 type Sums = unsafe extern "C" fn(*const i32, usize, *const i32, usize, *mut u8, usize) -> u32;
 
-fn sums<const B: usize>(
-    inputs: &Inputs,
-    name: &str,
-    export: Sums,
-    rust: impl Fn(&[i32; B], &[i32; B]) -> [u8; B],
-    checked: impl Fn(&[i32; B], &[i32; B]) -> Result<[u8; B], u32>,
-) -> Row {
-    let (mut ours, mut theirs) = ([0; B], [0; B]);
-    let mut last = Ok([0; B]);
+fn sums<const B: usize>(inputs: &Inputs, name: &str, export: Sums, rust: impl Fn(&[i32; B], &[i32; B]) -> [u8; B]) -> Row {
+    let mut ours = [0; B];
+    let both = |i: usize| -> (&[i32; B], &[i32; B]) { (first(&inputs.numbers[i]), first(&inputs.predictions[i])) };
     compare(
         "sums",
         name.into(),
         1.0,
-        &mut |i| {
-            theirs = rust(first(&inputs.numbers[i]), first(&inputs.predictions[i]));
-            black_box(&theirs);
-        },
-        &mut |i| {
-            last = checked(first(&inputs.numbers[i]), first(&inputs.predictions[i]));
-            black_box(&last).as_ref().unwrap();
-        },
-        &mut |i| {
-            let (a, p) = (inputs.numbers[i].as_ptr(), inputs.predictions[i].as_ptr());
-            black_box(unsafe { export(a, B, p, B, ours.as_mut_ptr(), B) });
-            black_box(&ours);
-        },
+        vec![
+            &mut |i| {
+                let (a, p) = both(i);
+                rules::in_range(a).unwrap();
+                rules::in_range(p).unwrap();
+                let block = rust(a, p);
+                black_box(&block);
+            },
+            &mut |i| {
+                let (a, p) = both(i);
+                let block = rust(a, p);
+                black_box(&block);
+            },
+            &mut |i| {
+                let (a, p) = both(i);
+                let answer = unsafe { export(a.as_ptr(), B, p.as_ptr(), B, ours.as_mut_ptr(), B) };
+                assert_eq!(answer, 0);
+                black_box(&ours);
+            },
+        ],
+    )
+}
+
+type Into = unsafe extern "C" fn(*const i32, usize, *const u8, usize, usize, usize, *mut u8, usize, usize, usize) -> u32;
+
+/// The forms into a plane: each side has a plane of its own.
+fn into_plane(
+    inputs: &Inputs,
+    name: &str,
+    rust: impl Fn(&[i32; 16], &[u8], Square, &mut [u8], Square),
+    checked: impl Fn(&[i32; 16], &[u8], Square, &mut [u8], Square) -> Result<(), u32>,
+    port: impl Fn(&[i32; 16], &[u8], Square, &mut [u8], Square) -> u32,
+) -> Row {
+    let [mut a, mut b, mut c] = [inputs.plane.clone(), inputs.plane.clone(), inputs.plane.clone()];
+    let squares = |i: usize| (Square { offset: i, stride: black_box(16) }, Square { offset: 4 * i, stride: black_box(64) });
+    let (numbers, pred) = (|i: usize| first(&inputs.numbers[i]), &inputs.plane);
+    compare(
+        "sums",
+        name.into(),
+        1.0,
+        vec![
+            &mut |i| {
+                let (from, to) = squares(i);
+                checked(numbers(i), pred, from, &mut a, to).unwrap();
+                black_box(&a);
+            },
+            &mut |i| {
+                let (from, to) = squares(i);
+                rust(numbers(i), pred, from, &mut b, to);
+                black_box(&b);
+            },
+            &mut |i| {
+                let (from, to) = squares(i);
+                assert_eq!(port(numbers(i), pred, from, &mut c, to), 0);
+                black_box(&c);
+            },
+        ],
     )
 }
 
 fn blocks(inputs: &Inputs) -> Vec<Row> {
-    let mut rows = Vec::new();
-    let (mut ours, mut theirs) = ([0; 16], [0; 16]);
-    let mut last = Ok([0; 16]);
-    rows.push(compare(
-        "sums",
-        "inverse_4x4".into(),
-        1.0,
-        &mut |i| {
-            theirs = inverse_core(first(&inputs.numbers[i]));
-            black_box(&theirs);
-        },
-        &mut |i| {
-            last = rules::inverse_4x4(first(&inputs.numbers[i]));
-            black_box(&last).as_ref().unwrap();
-        },
-        &mut |i| {
-            black_box(unsafe { jiwarbend_inverse_4x4(inputs.numbers[i].as_ptr(), 16, ours.as_mut_ptr(), 16) });
-            black_box(&ours);
-        },
-    ));
-    rows.push(sums(inputs, "reconstruct_4x4", jiwarbend_reconstruct_4x4, predict::reconstruct_4x4, rules::reconstruct_4x4));
-    rows.push(sums(inputs, "add_residual_4x4", jiwarbend_add_residual_4x4, add_residual_4x4, rules::add_residual_4x4));
-    rows.push(sums(inputs, "add_residual_8x8", jiwarbend_add_residual_8x8, predict::add_residual_8x8, rules::add_residual_8x8));
-
-    type Into = unsafe extern "C" fn(*const i32, usize, *const u8, usize, usize, usize, *mut u8, usize, usize, usize) -> u32;
-    type Rust = fn(&[i32; 16], &[u8], (usize, usize), &mut [u8], (usize, usize));
-    type Checked = fn(&[i32; 16], &[u8], Square, &mut [u8], Square) -> Result<(), u32>;
-    let pred = &inputs.plane;
-    let squares = |i: usize| (Square { offset: i, stride: 16 }, Square { offset: 4 * i, stride: 64 });
-    let mut into = |name: &str, export: Into, rust: Rust, checked: Checked| {
-        let (mut ours, mut theirs) = (inputs.plane.clone(), inputs.plane.clone());
-        let mut last = inputs.plane.clone();
-        rows.push(compare(
-            "sums",
-            name.into(),
-            1.0,
-            &mut |i| {
-                rust(first(&inputs.numbers[i]), pred, (i, 16), &mut theirs, (4 * i, 64));
-                black_box(&theirs);
-            },
-            &mut |i| {
-                let (from, to) = squares(i);
-                checked(first(&inputs.numbers[i]), pred, from, &mut last, to).unwrap();
-                black_box(&last);
-            },
-            &mut |i| {
-                let (p, r) = (pred.as_ptr(), ours.as_mut_ptr());
-                let (pl, rl) = (pred.len(), ours.len());
-                black_box(unsafe { export(inputs.numbers[i].as_ptr(), 16, p, pl, i, 16, r, rl, 4 * i, 64) });
-                black_box(&ours);
-            },
-        ));
+    let mut ours = [0; 16];
+    let list = |export: Into| {
+        move |n: &[i32; 16], pred: &[u8], from: Square, rec: &mut [u8], to: Square| {
+            let (p, r) = (pred.as_ptr(), rec.as_mut_ptr());
+            unsafe { export(n.as_ptr(), 16, p, pred.len(), from.offset, from.stride, r, rec.len(), to.offset, to.stride) }
+        }
     };
-    into("reconstruct_4x4_into", jiwarbend_reconstruct_4x4_into, reconstruct_4x4_into, rules::reconstruct_4x4_into);
-    into("add_residual_4x4_into", jiwarbend_add_residual_4x4_into, add_residual_4x4_into, rules::add_residual_4x4_into);
-    let (mut ours, mut theirs) = (inputs.plane.clone(), inputs.plane.clone());
-    let mut last = inputs.plane.clone();
-    rows.push(compare(
-        "sums",
-        "reconstruct_4x4_dc_into".into(),
-        1.0,
-        &mut |i| {
-            reconstruct_4x4_dc_into(inputs.numbers[i][0], pred, (i, 16), &mut theirs, (4 * i, 64));
-            black_box(&theirs);
-        },
-        &mut |i| {
-            let (from, to) = squares(i);
-            rules::reconstruct_4x4_dc_into(inputs.numbers[i][0], pred, from, &mut last, to).unwrap();
-            black_box(&last);
-        },
-        &mut |i| {
-            let (p, r) = (pred.as_ptr(), ours.as_mut_ptr());
-            let (pl, rl) = (pred.len(), ours.len());
-            black_box(unsafe { jiwarbend_reconstruct_4x4_dc_into(inputs.numbers[i][0], p, pl, i, 16, r, rl, 4 * i, 64) });
-            black_box(&ours);
-        },
-    ));
-    rows
+    vec![
+        compare(
+            "sums",
+            "inverse_4x4".into(),
+            1.0,
+            vec![
+                &mut |i| {
+                    let deq = first(&inputs.numbers[i]);
+                    rules::in_range(deq).unwrap();
+                    let block = transform::inverse_core(deq);
+                    black_box(&block);
+                },
+                &mut |i| {
+                    let block = transform::inverse_core(first(&inputs.numbers[i]));
+                    black_box(&block);
+                },
+                &mut |i| {
+                    let answer = unsafe { jiwarbend_inverse_4x4(inputs.numbers[i].as_ptr(), 16, ours.as_mut_ptr(), 16) };
+                    assert_eq!(answer, 0);
+                    black_box(&ours);
+                },
+            ],
+        ),
+        sums(inputs, "reconstruct_4x4", jiwarbend_reconstruct_4x4, predict::reconstruct_4x4),
+        sums(inputs, "add_residual_4x4", jiwarbend_add_residual_4x4, predict::add_residual_4x4),
+        sums(inputs, "add_residual_8x8", jiwarbend_add_residual_8x8, predict::add_residual_8x8),
+        into_plane(
+            inputs,
+            "reconstruct_4x4_into",
+            |n, pred, p, rec, r| predict::reconstruct_4x4_into(n, pred, p.offset, p.stride, rec, r.offset, r.stride),
+            rules::reconstruct_4x4_into,
+            list(jiwarbend_reconstruct_4x4_into),
+        ),
+        into_plane(
+            inputs,
+            "add_residual_4x4_into",
+            |n, pred, p, rec, r| predict::add_residual_4x4_into(n, pred, p.offset, p.stride, rec, r.offset, r.stride),
+            rules::add_residual_4x4_into,
+            list(jiwarbend_add_residual_4x4_into),
+        ),
+        into_plane(
+            inputs,
+            "reconstruct_4x4_dc_into",
+            |n, pred, p, rec, r| predict::reconstruct_4x4_dc_into(n[0], pred, p.offset, p.stride, rec, r.offset, r.stride),
+            |n, pred, p, rec, r| rules::reconstruct_4x4_dc_into(n[0], pred, p, rec, r),
+            |n, pred, p, rec, r| unsafe {
+                let (from, to) = (pred.as_ptr(), rec.as_mut_ptr());
+                jiwarbend_reconstruct_4x4_dc_into(n[0], from, pred.len(), p.offset, p.stride, to, rec.len(), r.offset, r.stride)
+            },
+        ),
+    ]
 }
 
-/// Whole pictures in raster order, by macroblock: the same checks and the same order on both sides.
-fn pictures() -> Vec<Row> {
+/// A whole picture in raster order, by macroblock, with the same order on every side.
+fn picture(random: &mut Random, group: &'static str, name: String, (w, h): (u32, u32), slices: Vec<u16>, records: &[Record]) -> Row {
+    let mut ours = Memory::new(random, w, h, slices, 0);
+    let (mut checked, mut bare, mut short) = (ours.clone(), ours.clone(), ours.clone());
+    let whole = |memory: &mut Memory, call: &dyn Fn(&mut Memory, u32, u32, &Record) -> u32| {
+        memory.restart();
+        for (a, r) in records.iter().enumerate() {
+            let answer = call(memory, a as u32 % w, a as u32 / w, r);
+            assert_eq!(answer, 0);
+        }
+        black_box(memory);
+    };
+    let row = compare(
+        group,
+        name,
+        (w * h) as f64,
+        vec![
+            &mut |_| whole(&mut checked, &|m, x, y, r| m.rust_as::<true, false>(x, y, r.kind, &r.modes, r.chroma_mode, &r.numbers)),
+            &mut |_| whole(&mut bare, &|m, x, y, r| m.rust_as::<false, false>(x, y, r.kind, &r.modes, r.chroma_mode, &r.numbers)),
+            &mut |_| whole(&mut ours, &|m, x, y, r| m.port(x, y, r.kind, &r.modes, r.chroma_mode, &r.numbers)),
+            &mut |_| whole(&mut short, &|m, x, y, r| m.rust_as::<false, true>(x, y, r.kind, &r.modes, r.chroma_mode, &r.numbers)),
+        ],
+    );
+    for theirs in [&checked, &bare, &short] {
+        assert!(ours.planes == theirs.planes, "every side rebuilt the same picture");
+    }
+    row
+}
+
+const SIZES: [(u32, u32); 3] = [(11, 9), (40, 22), (120, 68)];
+
+/// Pictures whose numbers are drawn at random, by kind of macroblock.
+fn random_pictures() -> Vec<Row> {
     let mut random = Random::new(2);
     let mut rows = Vec::new();
-    let sizes = [(11, 9), (40, 22), (120, 68)];
     let mixes = [("4x4", 0b001), ("8x8", 0b010), ("16x16", 0b100), ("mixed", 0b111)];
-    for (w, h) in sizes {
+    for (w, h) in SIZES {
         for (mix, kinds) in mixes {
             let slices = if mix == "mixed" { slice_map(&mut random, w, h) } else { vec![0; (w * h) as usize] };
             let of_mix: Vec<u8> = (0..3).filter(|k| kinds >> k & 1 == 1).collect();
             let records = good_records(&mut random, w, h, &slices, |random| random.pick(&of_mix));
-            let mut ours = Memory::new(&mut random, w, h, slices, 0);
-            let (mut theirs, mut again) = (ours.clone(), ours.clone());
-            type Call = fn(&mut Memory, u32, u32, &Record) -> u32;
-            let whole = |memory: &mut Memory, call: Call| {
-                memory.done.fill(0);
-                memory.progress = (0, 0);
-                for (a, r) in records.iter().enumerate() {
-                    let answer = call(memory, a as u32 % w, a as u32 / w, r);
-                    assert_eq!(answer, 0);
-                }
-                black_box(memory);
-            };
-            rows.push(compare(
-                "pictures",
-                format!("{} by {}, {mix}", 16 * w, 16 * h),
-                (w * h) as f64,
-                &mut |_| whole(&mut theirs, |m, x, y, r| m.rust(x, y, r.kind, &r.modes, r.chroma_mode, &r.numbers)),
-                &mut |_| whole(&mut again, |m, x, y, r| m.rust(x, y, r.kind, &r.modes, r.chroma_mode, &r.numbers)),
-                &mut |_| whole(&mut ours, |m, x, y, r| m.port(x, y, r.kind, &r.modes, r.chroma_mode, &r.numbers)),
-            ));
-            assert!(ours.planes == theirs.planes, "both sides rebuilt the same picture");
+            let name = format!("{} by {}, {mix}", 16 * w, 16 * h);
+            rows.push(picture(&mut random, "random", name, (w, h), slices, &records));
         }
     }
     rows
 }
 
-fn table(rows: &[Row]) -> String {
-    let mut out = String::new();
-    let counted = rows.iter().all(|r| r.instructions.is_some());
-    let groups = [
-        ("pictures", "Whole pictures, nanoseconds for a macroblock"),
-        ("prediction", "Prediction, nanoseconds for a block"),
-        ("sums", "The inverse and clipped sums, nanoseconds for a block"),
-        ("small", "Small routines, nanoseconds for a call"),
-    ];
-    for (group, title) in groups {
-        let (head, line) = if counted { (" instructions: Rust / with checks / port |", "---:|") } else { ("", "") };
-        writeln!(out, "\n### {title}\n\n| | Rust | Rust with checks | port | port / Rust | quartiles |{head}").unwrap();
-        writeln!(out, "|---|---:|---:|---:|---:|---|{line}").unwrap();
-        for r in rows.iter().filter(|r| r.group == group) {
-            let (rust, checked, port) = (r.rust, r.checked, r.port);
-            let spread = format!("{:.2} to {:.2}", r.low, r.high);
-            let counts = r.instructions.map_or(String::new(), |[a, b, c]| format!(" {a:.0} / {b:.0} / {c:.0} |"));
-            writeln!(out, "| {} | {rust:.1} | {checked:.1} | {port:.1} | {:.2} | {spread} |{counts}", r.name, r.ratio).unwrap();
+/// A picture that an encoder coded, and pictures with as few coefficients as real streams have, at three densities.
+fn sparse_pictures() -> Vec<Row> {
+    let mut random = Random::new(3);
+    let coded = harness::store::read(include_bytes!("../../../tests/data/bars_q30_baseline.rmb1"));
+    let record = |(kind, modes, chroma_mode, numbers)| Record { kind, modes, chroma_mode, numbers };
+    let records: Vec<Record> = coded.records.into_iter().map(record).collect();
+    let name = format!("{} by {}, coded by x264", 16 * coded.w, 16 * coded.h);
+    let mut rows = vec![picture(&mut Random::new(4), "sparse", name, (coded.w, coded.h), coded.slices, &records)];
+    let densities = [(0.10, 0.32), (0.17, 0.47), (0.35, 0.52)];
+    for (w, h) in SIZES {
+        for (bare_macroblocks, bare_blocks) in densities {
+            let slices = vec![0; (w * h) as usize];
+            let records = sparse_records(&mut random, w, h, &slices, Density { bare_macroblocks, bare_blocks });
+            let name = format!("{} by {}, {:.0} of 100 blocks empty", 16 * w, 16 * h, bare_share(&records));
+            rows.push(picture(&mut random, "sparse", name, (w, h), slices, &records));
         }
     }
-    out
-}
-
-fn plot(rows: &[Row]) -> String {
-    let (left, scale, line) = (250.0, 220.0, 16.0);
-    let most = rows.iter().map(|r| r.high).fold(1.5, f64::max).ceil();
-    let (width, height) = (left + scale * most + 20.0, 50.0 + line * rows.len() as f64);
-    let mut out = String::new();
-    writeln!(
-        out,
-        "<svg xmlns=\"http://www.w3.org/2000/svg\" viewBox=\"0 0 {width:.0} {height:.0}\" font-family=\"sans-serif\" font-size=\"11\">"
-    )
-    .unwrap();
-    writeln!(out, "<rect width=\"{width:.0}\" height=\"{height:.0}\" fill=\"white\"/>").unwrap();
-    writeln!(out, "<text x=\"{left}\" y=\"16\">time of the port as a share of the Rust's (median and quartiles)</text>").unwrap();
-    for tick in 0..=(2.0 * most) as usize {
-        let x = left + scale * tick as f64 / 2.0;
-        let shade = if tick == 2 { "#333" } else { "#ddd" };
-        writeln!(out, "<line x1=\"{x:.0}\" y1=\"36\" x2=\"{x:.0}\" y2=\"{:.0}\" stroke=\"{shade}\"/>", height - 8.0).unwrap();
-        writeln!(out, "<text x=\"{x:.0}\" y=\"32\" text-anchor=\"middle\" fill=\"#555\">{}</text>", tick as f64 / 2.0).unwrap();
-    }
-    for (k, r) in rows.iter().enumerate() {
-        let y = 42.0 + line * k as f64;
-        let colour = if r.ratio <= 1.0 { "#4a8f5c" } else { "#c9803a" };
-        writeln!(out, "<text x=\"{:.0}\" y=\"{:.1}\" text-anchor=\"end\">{}</text>", left - 8.0, y + 9.0, r.name).unwrap();
-        writeln!(out, "<rect x=\"{left}\" y=\"{y:.1}\" width=\"{:.1}\" height=\"10\" fill=\"{colour}\"/>", scale * r.ratio).unwrap();
-        let (from, to) = (left + scale * r.low, left + scale * r.high);
-        writeln!(out, "<line x1=\"{from:.1}\" y1=\"{0:.1}\" x2=\"{to:.1}\" y2=\"{0:.1}\" stroke=\"black\"/>", y + 5.0).unwrap();
-    }
-    out + "</svg>\n"
+    rows
 }
 
 fn predictions(inputs: &Inputs) -> Vec<Row> {
@@ -609,35 +596,37 @@ fn predictions(inputs: &Inputs) -> Vec<Row> {
         "intra4x4_pred",
         9,
         jiwarbend_intra4x4_pred,
-        |mode, top, left, corner| predict::intra4x4_pred(mode, true, true, top, left, corner),
-        rules::intra4x4_pred,
+        |mode, m, top, left, corner| predict::intra4x4_pred(mode, m.above, m.left, top, left, corner),
+        rules::mode_nxn,
     ));
     rows.extend(predictor(
         inputs,
         "intra8x8_pred",
         9,
         jiwarbend_intra8x8_pred,
-        |mode, top, left, corner| predict::intra8x8_pred(mode, true, true, true, top, left, corner),
-        rules::intra8x8_pred,
+        |mode, m, top, left, corner| predict::intra8x8_pred(mode, m.above, m.left, m.corner, top, left, corner),
+        rules::mode_nxn,
     ));
     rows.extend(predictor(
         inputs,
         "luma16x16_pred",
         4,
         jiwarbend_luma16x16_pred,
-        |mode, top, left, corner| predict::luma16x16_pred(I16Mode::from_id(mode as u32), true, true, top, left, corner),
-        rules::luma16x16_pred,
+        |mode, m, top, left, corner| predict::luma16x16_pred(I16Mode::from_id(mode as u32), m.above, m.left, top, left, corner),
+        rules::mode_16x16,
     ));
     rows.extend(predictor(
         inputs,
         "chroma8x8_pred",
         4,
         jiwarbend_chroma8x8_pred,
-        |mode, top, left, corner| predict::chroma8x8_pred(mode, true, true, top, left, corner),
-        rules::chroma8x8_pred,
+        |mode, m, top, left, corner| predict::chroma8x8_pred(mode, m.above, m.left, top, left, corner),
+        rules::mode_chroma,
     ));
-    rows.push(mean(inputs, "luma16x16_dc", jiwarbend_luma16x16_dc, luma16x16_dc));
-    rows.push(mean(inputs, "chroma8x8_dc", jiwarbend_chroma8x8_dc, chroma8x8_dc));
+    rows.push(mean(inputs, "luma16x16_dc", jiwarbend_luma16x16_dc, |above, beside, top, left| {
+        [predict::luma16x16_dc(above, beside, top, left)]
+    }));
+    rows.push(mean(inputs, "chroma8x8_dc", jiwarbend_chroma8x8_dc, predict::chroma8x8_dc));
     let modes = [0, 1, 2, 3];
     rows.extend(from_plane::<256>(
         inputs,
@@ -658,32 +647,155 @@ fn predictions(inputs: &Inputs) -> Vec<Row> {
     rows
 }
 
-/// Writes the table and the plot, with the instructions where they can be counted.
-fn write(rows: &mut [Row], folder: &Path) {
-    std::fs::create_dir_all(folder).unwrap();
-    if let Some(counts) = instructions(folder) {
-        assert_eq!(counts.len(), 3 * rows.len());
-        for (row, c) in rows.iter_mut().zip(counts.chunks(3)) {
-            let units = counted(row.per) as f64 * row.per;
-            row.instructions = Some([c[0] / units, c[1] / units, c[2] / units]);
+const GROUPS: [(&str, &str); 5] = [
+    ("sparse", "Whole pictures with as few coefficients as real streams have, nanoseconds for a macroblock"),
+    ("random", "Whole pictures with numbers at random, nanoseconds for a macroblock"),
+    ("prediction", "Prediction, nanoseconds for a block"),
+    ("sums", "The inverse and clipped sums, nanoseconds for a block"),
+    ("small", "Small routines and start, nanoseconds for a call"),
+];
+
+/// What a command says on its first line that has `key`, behind the key.
+fn said(command: &str, key: &str) -> Option<String> {
+    let mut words = command.split(' ');
+    let out = Command::new(words.next()?).args(words).output().ok()?;
+    let text = String::from_utf8(out.stdout).ok()?;
+    text.lines().find_map(|line| Some(line.strip_prefix(key)?.trim().to_string()))
+}
+
+/// The machine, the compiler and the number of rounds.
+fn circumstances() -> String {
+    let cores = std::thread::available_parallelism().map_or(1, |n| n.get());
+    let cpu = said("lscpu", "Model name:").unwrap_or_else(|| "an unnamed processor".into());
+    let rustc = said("rustc --version", "rustc").unwrap_or_else(|| "of an unknown version".into());
+    format!("Measured on {} ({cpu}, {cores} cores), rustc {rustc}, {} rounds.", std::env::consts::ARCH, rounds())
+}
+
+fn table(rows: &[Row]) -> String {
+    let mut out = String::new();
+    let counted = rows.iter().all(|r| r.instructions.is_some());
+    for (group, title) in GROUPS {
+        let of_group: Vec<&Row> = rows.iter().filter(|r| r.group == group).collect();
+        let short = of_group.iter().all(|r| r.times.len() > SHORT);
+        let also = |yes: bool, text: &str| if yes { text.to_string() } else { String::new() };
+        writeln!(
+            out,
+            "\n### {title}\n\n| | Rust | no checks |{} port | port / Rust | quartiles | port / no checks |{}{}",
+            also(short, " short cuts |"),
+            also(short, " port / short cuts |"),
+            also(counted, " instructions |")
+        )
+        .unwrap();
+        let columns = 6 + 2 * short as usize + counted as usize;
+        writeln!(out, "|---|{}", "---:|".repeat(columns)).unwrap();
+        for r in of_group {
+            let (t, ratio) = (&r.times, &r.ratios);
+            let mut cells = vec![r.name.clone(), format!("{:.1}", t[CHECKED]), format!("{:.1}", t[BARE])];
+            cells.extend(short.then(|| format!("{:.1}", t[SHORT])));
+            cells.push(format!("{:.1}", t[PORT]));
+            cells.push(format!("**{:.2}**", ratio[CHECKED].middle));
+            cells.push(format!("{:.2} to {:.2}", ratio[CHECKED].low, ratio[CHECKED].high));
+            cells.push(format!("{:.2}", ratio[BARE].middle));
+            cells.extend(short.then(|| format!("{:.2}", ratio[SHORT].middle)));
+            if let Some(counts) = &r.instructions {
+                let order = [CHECKED, BARE, SHORT, PORT];
+                let of_sides: Vec<String> = order.iter().filter_map(|&k| counts.get(k)).map(|n| format!("{n:.0}")).collect();
+                cells.push(of_sides.join(" / "));
+            }
+            writeln!(out, "| {} |", cells.join(" | ")).unwrap();
         }
     }
-    std::fs::write(folder.join("table.md"), table(rows)).unwrap();
+    out
+}
+
+/// What the figures say, in sentences: the ranges of the ratios.
+fn headline(rows: &[Row]) -> String {
+    let range = |group: &[&str], side: usize| {
+        let of = rows.iter().filter(|r| group.contains(&r.group) && r.ratios.len() > side).map(|r| r.ratios[side].middle);
+        let (least, most) = of.fold((f64::MAX, 0.0), |(a, b): (f64, f64), v| (a.min(v), b.max(v)));
+        format!("{least:.2} to {most:.2}")
+    };
+    let blocks: Vec<&Row> = rows.iter().filter(|r| !["sparse", "random"].contains(&r.group)).collect();
+    let slower = |side: usize| blocks.iter().filter(|r| r.ratios[side].middle > 1.0).count();
+    format!(
+        "- Pictures as real streams have them take {} of the time of the best Rust with the same checks,\n  \
+         {} of the Rust without checks 6 to 8, and {} of a Rust that also takes short cuts for blocks of no or one coefficient.\n\
+         - Pictures of numbers at random take {}, {} and {} of these times.\n\
+         - Of {} block calls {} take longer than the best Rust with the same checks, and {} longer than the Rust without checks.\n",
+        range(&["sparse"], CHECKED),
+        range(&["sparse"], BARE),
+        range(&["sparse"], SHORT),
+        range(&["random"], CHECKED),
+        range(&["random"], BARE),
+        range(&["random"], SHORT),
+        blocks.len(),
+        slower(CHECKED),
+        slower(BARE),
+    )
+}
+
+fn plot(rows: &[Row]) -> String {
+    let (left, scale, line) = (290.0, 220.0, 16.0);
+    let most = rows.iter().map(|r| r.ratios[CHECKED].high).fold(1.5, f64::max).ceil();
+    let (width, height) = (left + scale * most + 20.0, 50.0 + line * rows.len() as f64);
+    let mut out = String::new();
+    writeln!(
+        out,
+        "<svg xmlns=\"http://www.w3.org/2000/svg\" viewBox=\"0 0 {width:.0} {height:.0}\" font-family=\"sans-serif\" font-size=\"11\">"
+    )
+    .unwrap();
+    writeln!(out, "<rect width=\"{width:.0}\" height=\"{height:.0}\" fill=\"white\"/>").unwrap();
+    let title = "time of the port as a share of the best Rust's with the same checks (median and quartiles)";
+    writeln!(out, "<text x=\"8\" y=\"16\">{title}</text>").unwrap();
+    for tick in 0..=(2.0 * most) as usize {
+        let x = left + scale * tick as f64 / 2.0;
+        let shade = if tick == 2 { "#333" } else { "#ddd" };
+        writeln!(out, "<line x1=\"{x:.0}\" y1=\"36\" x2=\"{x:.0}\" y2=\"{:.0}\" stroke=\"{shade}\"/>", height - 8.0).unwrap();
+        writeln!(out, "<text x=\"{x:.0}\" y=\"32\" text-anchor=\"middle\" fill=\"#555\">{}</text>", tick as f64 / 2.0).unwrap();
+    }
+    for (k, r) in rows.iter().enumerate() {
+        let y = 42.0 + line * k as f64;
+        let ratio = r.ratios[CHECKED];
+        let colour = if ratio.middle <= 1.0 { "#4a8f5c" } else { "#c9803a" };
+        writeln!(out, "<text x=\"{:.0}\" y=\"{:.1}\" text-anchor=\"end\">{}</text>", left - 8.0, y + 9.0, r.name).unwrap();
+        writeln!(out, "<rect x=\"{left}\" y=\"{y:.1}\" width=\"{:.1}\" height=\"10\" fill=\"{colour}\"/>", scale * ratio.middle).unwrap();
+        let (from, to) = (left + scale * ratio.low, left + scale * ratio.high);
+        writeln!(out, "<line x1=\"{from:.1}\" y1=\"{0:.1}\" x2=\"{to:.1}\" y2=\"{0:.1}\" stroke=\"black\"/>", y + 5.0).unwrap();
+    }
+    out + "</svg>\n"
+}
+
+/// Writes the table, the headline and the plot, with the instructions where they can be counted.
+fn write(rows: &mut [Row], folder: &Path) {
+    std::fs::create_dir_all(folder).unwrap();
+    // A short run is to see that all sides agree: it counts nothing.
+    if let Some(counts) = if rounds() < 20 { None } else { instructions(folder) } {
+        let mut counts = counts.into_iter();
+        for row in rows.iter_mut() {
+            let units = counted(row.per) as f64 * row.per;
+            let of_row: Vec<f64> = counts.by_ref().take(row.times.len()).map(|n| n / units).collect();
+            assert_eq!(of_row.len(), row.times.len(), "a count for every side");
+            row.instructions = Some(of_row);
+        }
+        assert_eq!(counts.next(), None, "no more counts than sides");
+    }
+    std::fs::write(folder.join("table.md"), format!("{}\n{}", circumstances(), table(rows))).unwrap();
+    std::fs::write(folder.join("headline.md"), headline(rows)).unwrap();
     std::fs::write(folder.join("benchmark.svg"), plot(rows)).unwrap();
 }
 
 fn main() {
     let inputs = Inputs::new();
-    let mut rows = pictures();
+    let mut rows = sparse_pictures();
+    rows.extend(random_pictures());
     rows.extend(predictions(&inputs));
     rows.extend(blocks(&inputs));
     rows.extend(small(&inputs));
     if counting() {
         return;
     }
-    if let Some(folder) = std::env::args().nth(1) {
+    if let Some(folder) = argument(1) {
         write(&mut rows, Path::new(&folder));
     }
-    let above = rows.iter().filter(|r| r.ratio > 1.0).count();
-    println!("{} pairs timed, {above} of them above 1.0", rows.len());
+    print!("{}", headline(&rows));
 }

@@ -1,31 +1,31 @@
 //! The port against the Rust it was ported from, call by call: answers, what was written and what was not.
 //! Inside the rules' domain the Rust's own routine says what is right; outside it, the rules' refusals do (`oracle::rules`).
-use harness::{good_record, good_records, shuffled, slice_map, Memory, Random};
+//! Every limit is drawn on both sides, every list in its own length, one short, one long and empty, and guards stand around every buffer. How
+//! often each answer was given is counted: an answer that a call can give and has not given is a failure too.
+use harness::{good_record, good_records, shuffled, slice_map, Guarded, Memory, Random, Record};
 use jiwarbend::sys::*;
 use oracle::rules::{self, Marks, Square};
 use oracle::{driver, predict};
-
-/// Bytes around every written buffer, which must stay as they are.
-const GUARD: usize = 32;
-const FILL: u8 = 0xa5;
 
 struct Report {
     scale: usize,
     passed: usize,
     failed: usize,
+    seen: [u64; 9],
 }
 
+/// The calls of one routine: which answers are due, and how often each was given.
 struct Routine<'a> {
     name: &'static str,
-    cases: u64,
-    refused: u64,
+    due: &'static [u32],
+    seen: [u64; 9],
     wrong: u64,
     report: &'a mut Report,
 }
 
 impl Report {
-    fn routine(&mut self, name: &'static str) -> Routine<'_> {
-        Routine { name, cases: 0, refused: 0, wrong: 0, report: self }
+    fn routine(&mut self, name: &'static str, due: &'static [u32]) -> Routine<'_> {
+        Routine { name, due, seen: [0; 9], wrong: 0, report: self }
     }
 
     /// `n` cases, or fewer where a short run was asked for.
@@ -41,12 +41,11 @@ impl Routine<'_> {
 
     /// The same of calls that may be refused: the answer comes first.
     fn told<T: PartialEq>(&mut self, port: (u32, T), rust: (u32, T), say: impl FnOnce() -> String) {
-        self.cases += 1;
-        self.refused += (rust.0 != 0) as u64;
+        self.seen[rust.0 as usize] += 1;
         if port != rust {
             self.wrong += 1;
             if self.wrong <= 3 {
-                println!("{}: differs at {}", self.name, say());
+                println!("{}: differs at {}: the answer is {} and should be {}", self.name, say(), port.0, rust.0);
             }
         }
     }
@@ -54,43 +53,55 @@ impl Routine<'_> {
 
 impl Drop for Routine<'_> {
     fn drop(&mut self) {
-        let verdict = if self.wrong == 0 { "equal".to_string() } else { format!("{} DIFFER", self.wrong) };
-        println!("{:<24} {:>9} cases, {:>8} of them refused: {}", self.name, self.cases, self.refused, verdict);
-        if self.wrong == 0 && self.cases > 0 {
+        let answers = || (0..9).filter(|&n| self.seen[n as usize] > 0);
+        let missing: Vec<u32> = self.due.iter().copied().filter(|&n| self.seen[n as usize] == 0).collect();
+        let odd: Vec<u32> = answers().filter(|n| !self.due.contains(n)).collect();
+        let mut verdict = if self.wrong == 0 { "equal".to_string() } else { format!("{} DIFFER", self.wrong) };
+        if !missing.is_empty() {
+            verdict += &format!(", NEVER SEEN {missing:?}");
+        }
+        if !odd.is_empty() {
+            verdict += &format!(", NOT DUE {odd:?}");
+        }
+        let counts: Vec<String> = answers().map(|n| format!("{n}: {}", self.seen[n as usize])).collect();
+        println!("{:<24} {:>9} cases {verdict}; answers {}", self.name, self.seen.iter().sum::<u64>(), counts.join(", "));
+        if self.wrong == 0 && missing.is_empty() && odd.is_empty() {
             self.report.passed += 1;
         } else {
             self.report.failed += 1;
         }
+        self.report.seen.iter_mut().zip(self.seen).for_each(|(all, n)| *all += n);
     }
 }
 
-/// A buffer of `len` bytes between guards.
-fn guarded(len: usize) -> Vec<u8> {
-    vec![FILL; len + 2 * GUARD]
-}
-
-fn inner(buffer: &mut [u8]) -> &mut [u8] {
-    let end = buffer.len() - GUARD;
-    &mut buffer[GUARD..end]
-}
-
 /// What a call that gives a block leaves in the buffer it was lent.
-fn left_behind<T: AsRef<[u8]>>(len: usize, result: Result<T, u32>) -> (u32, Vec<u8>) {
-    let mut buffer = guarded(len);
+fn left_behind<T: AsRef<[u8]>>(len: usize, result: Result<T, u32>) -> (u32, Guarded<u8>) {
+    let mut buffer = Guarded::filled(len);
     match result {
         Ok(block) => {
-            inner(&mut buffer).copy_from_slice(block.as_ref());
+            buffer.inner().copy_from_slice(block.as_ref());
             (0, buffer)
         }
         Err(n) => (n, buffer),
     }
 }
 
+/// A list's length: as it must be, one short, one long, empty, and twice as long.
+fn lengths_of(right: usize) -> [usize; 5] {
+    [right, right.saturating_sub(1), right + 1, 0, 2 * right]
+}
+
+/// Three lists in all their lengths.
+fn lengths(right: [usize; 3]) -> Vec<(usize, usize, usize)> {
+    let [a, b, c] = right.map(lengths_of);
+    a.into_iter().flat_map(|a| b.into_iter().flat_map(move |b| c.into_iter().map(move |c| (a, b, c)))).collect()
+}
+
 type Predictor = unsafe extern "C" fn(u8, bool, bool, bool, *const u8, usize, *const u8, usize, u8, *mut u8, usize) -> u32;
 
-fn predicted(export: Predictor, mode: u8, m: Marks, top: &[u8], left: &[u8], corner: u8, len: usize) -> (u32, Vec<u8>) {
-    let mut buffer = guarded(len);
-    let out = inner(&mut buffer);
+fn predicted(export: Predictor, mode: u8, m: Marks, top: &[u8], left: &[u8], corner: u8, len: usize) -> (u32, Guarded<u8>) {
+    let mut buffer = Guarded::filled(len);
+    let out = buffer.inner();
     let answer = unsafe {
         export(mode, m.above, m.left, m.corner, top.as_ptr(), top.len(), left.as_ptr(), left.len(), corner, out.as_mut_ptr(), out.len())
     };
@@ -104,7 +115,8 @@ fn predictor<const T: usize, const L: usize, const B: usize>(
     rust: impl Fn(u8, Marks, &[u8; T], &[u8; L], u8) -> Result<[u8; B], u32>,
 ) {
     let rounds = report.many(60_000);
-    let mut routine = report.routine(name);
+    let mut routine = report.routine(name, &[0, 2, 6, 7]);
+    let (all, none) = (Marks { above: true, left: true, corner: true }, Marks { above: false, left: false, corner: false });
     let mut random = Random::new(name.len() as u64);
     let (mut top, mut left) = ([0; T], [0; L]);
     let one = |routine: &mut Routine, mode: u8, m: Marks, top: &[u8; T], left: &[u8; L], corner: u8| {
@@ -141,16 +153,18 @@ fn predictor<const T: usize, const L: usize, const B: usize>(
         for mode in 0..9 {
             let m = Marks::all().nth(random.below(8)).unwrap();
             one(&mut routine, mode, m, &top, &left, corner);
-            one(&mut routine, mode, Marks { above: true, left: true, corner: true }, &top, &left, corner);
+            one(&mut routine, mode, all, &top, &left, corner);
         }
     }
-    // Lists of other lengths.
+    // Lists of other lengths: they are refused before the mode is looked at.
     let bytes = [9; 600];
-    for (t, l, b) in lengths(&mut random, [T, L, B]) {
-        let m = Marks { above: true, left: true, corner: true };
-        let port = predicted(export, 2, m, &bytes[..t], &bytes[..l], 9, b);
-        let wanted = if (t, l, b) == (T, L, B) { (0, left_behind(B, Ok([9; B])).1) } else { (2, guarded(b)) };
-        routine.told(port, wanted, || format!("lengths {t}, {l}, {b}"));
+    for (t, l, b) in lengths([T, L, B]) {
+        for (mode, m) in [(2, all), (9, all), (3, none)] {
+            let port = predicted(export, mode, m, &bytes[..t], &bytes[..l], 9, b);
+            let right = (t, l, b) == (T, L, B);
+            let wanted = if right { left_behind(b, rust(mode, m, &[9; T], &[9; L], 9)) } else { (2, Guarded::filled(b)) };
+            routine.told(port, wanted, || format!("mode {mode}, lengths {t}, {l}, {b}"));
+        }
     }
 }
 
@@ -163,12 +177,12 @@ fn mean<const N: usize, const B: usize>(
     rust: impl Fn(bool, bool, &[u8; N], &[u8; N]) -> [u8; B],
 ) {
     let rounds = report.many(300_000);
-    let mut routine = report.routine(name);
+    let mut routine = report.routine(name, &[0, 2]);
     let mut random = Random::new(12);
     let (mut top, mut left) = ([0; N], [0; N]);
     let call = |above, beside, top: &[u8], left: &[u8], len: usize| {
-        let mut buffer = guarded(len);
-        let out = inner(&mut buffer);
+        let mut buffer = Guarded::filled(len);
+        let out = buffer.inner();
         let (t, l) = (top.as_ptr(), left.as_ptr());
         let answer = unsafe { export(above, beside, t, top.len(), l, left.len(), out.as_mut_ptr(), out.len()) };
         (answer, buffer)
@@ -181,23 +195,11 @@ fn mean<const N: usize, const B: usize>(
             routine.told(call(above, beside, &top, &left, B), wanted, || format!("{above} {top:?}, {beside} {left:?}"));
         }
     }
-    let bytes = [9; 40];
-    for (t, l, b) in lengths(&mut random, [N, N, B]) {
-        let wanted = if (t, l, b) == (N, N, B) { left_behind(B, Ok([9; B])) } else { (2, guarded(b)) };
+    let bytes = [9; 130];
+    for (t, l, b) in lengths([N, N, B]) {
+        let wanted = if (t, l, b) == (N, N, B) { left_behind(B, Ok([9; B])) } else { (2, Guarded::filled(b)) };
         routine.told(call(true, true, &bytes[..t], &bytes[..l], b), wanted, || format!("lengths {t}, {l}, {b}"));
     }
-}
-
-/// Lengths at and around the right ones.
-fn lengths(random: &mut Random, right: [usize; 3]) -> Vec<(usize, usize, usize)> {
-    let mut around = |n: usize| match random.below(6) {
-        0 => 0,
-        1 => n - 1,
-        2 => n + 1,
-        3 => 2 * n,
-        _ => n,
-    };
-    (0..2000).map(|_| (around(right[0]), around(right[1]), around(right[2]))).collect()
 }
 
 type FromPlane = unsafe extern "C" fn(u8, *mut u8, usize, *const u8, usize, usize, usize) -> u32;
@@ -210,11 +212,37 @@ fn from_plane(
     rust: impl Fn(u8, &mut [u8], &[u8], usize, usize) -> Result<(), u32>,
 ) {
     let rounds = report.many(1_500_000);
-    let mut routine = report.routine(name);
+    let mut routine = report.routine(name, &[0, 2, 6]);
     let mut random = Random::new(77);
     let mut plane = vec![0; 1 << 17];
     random.samples(&mut plane);
     plane.iter_mut().for_each(|v| *v ^= random.byte() & 15);
+    let one = |routine: &mut Routine, plane: &[u8], mode: u8, lent: usize, base: usize, stride: usize| {
+        let (mut port, mut wanted) = (Guarded::filled(lent), Guarded::filled(lent));
+        let out = port.inner();
+        let answer = unsafe { export(mode, out.as_mut_ptr(), out.len(), plane.as_ptr(), plane.len(), base, stride) };
+        let said = rust(mode, wanted.inner(), plane, base, stride).err().unwrap_or(0);
+        let len = plane.len();
+        routine.told((answer, port), (said, wanted), || format!("mode {mode}, lent {lent}, length {len}, base {base}, stride {stride}"));
+    };
+    // How many bytes the samples around a block need.
+    let need = |base: usize, stride: usize| {
+        let (left, above) = (base.wrapping_add(stride.wrapping_mul(n - 1)), base.wrapping_sub(stride).wrapping_add(n));
+        left.max(above)
+    };
+    // Every limit on both sides: stride, place, length of the plane and of the prediction, mode.
+    for stride in [0, 1, 2, n, 4095, 4096, 4097] {
+        for base in [0, stride.wrapping_sub(1), stride, stride + 1, stride + 2, stride + n] {
+            let right = need(base, stride).min(plane.len() - 1);
+            for len in [right, right.wrapping_sub(1).min(plane.len()), right + 1, 0] {
+                for lent in lengths_of(n * n) {
+                    for mode in [0, 1, 2, 3, 4, 255] {
+                        one(&mut routine, &plane[..len], mode, lent, base, stride);
+                    }
+                }
+            }
+        }
+    }
     for round in 0..rounds {
         if round % 64 == 0 {
             random.samples(&mut plane[..2000]);
@@ -229,7 +257,7 @@ fn from_plane(
             2 => stride.wrapping_add(1),
             _ => stride.wrapping_add(1 + random.below(300)),
         };
-        let need = base.wrapping_add(stride.wrapping_mul(n - 1)).max(base.wrapping_add(n).wrapping_sub(stride));
+        let need = need(base, stride);
         let len = match random.below(8) {
             0 => need.wrapping_sub(1),
             1 => need,
@@ -238,21 +266,15 @@ fn from_plane(
         }
         .min(plane.len());
         let mode = if random.one_in(8) { random.byte() } else { random.below(4) as u8 };
-        let lent = match random.below(8) {
-            0 => n * n - 1,
-            1 => 0,
-            2 => n * n + random.below(40),
-            _ => n * n,
-        };
-        let (mut port, mut wanted) = (guarded(lent), guarded(lent));
-        let out = inner(&mut port);
-        let answer = unsafe { export(mode, out.as_mut_ptr(), out.len(), plane.as_ptr(), len, base, stride) };
-        let said = rust(mode, inner(&mut wanted), &plane[..len], base, stride).err().unwrap_or(0);
-        routine.told((answer, port), (said, wanted), || format!("mode {mode}, lent {lent}, length {len}, base {base}, stride {stride}"));
+        let lent = if random.one_in(4) { random.pick(&lengths_of(n * n)) } else { n * n };
+        one(&mut routine, &plane[..len], mode, lent, base, stride);
     }
 }
 
 type Sums = unsafe extern "C" fn(*const i32, usize, *const i32, usize, *mut u8, usize) -> u32;
+
+/// The numbers at the ends of the range, and the first ones past them.
+const LIMITS: [i32; 4] = [-32768, -32769, 32767, 32768];
 
 /// Numbers of which now and then one is out of range.
 fn numbers(random: &mut Random, out: &mut [i32]) {
@@ -270,12 +292,12 @@ fn sums<const B: usize>(
     rust: impl Fn(&[i32; B], &[i32; B]) -> Result<[u8; B], u32>,
 ) {
     let rounds = report.many(1_500_000);
-    let mut routine = report.routine(name);
+    let mut routine = report.routine(name, &[0, 2, 8]);
     let mut random = Random::new(5);
     let (mut first, mut pred) = ([0; B], [0; B]);
     let call = |first: &[i32], pred: &[i32], len: usize| {
-        let mut buffer = guarded(len);
-        let out = inner(&mut buffer);
+        let mut buffer = Guarded::filled(len);
+        let out = buffer.inner();
         let answer = unsafe { export(first.as_ptr(), first.len(), pred.as_ptr(), pred.len(), out.as_mut_ptr(), out.len()) };
         (answer, buffer)
     };
@@ -289,10 +311,23 @@ fn sums<const B: usize>(
         let wanted = left_behind(B, rust(&first, &pred));
         routine.told(call(&first, &pred, B), wanted, || format!("{first:?}, {pred:?}"));
     }
-    let flat = [0; 200];
-    for (f, p, b) in lengths(&mut random, [B, B, B]) {
-        let wanted = if (f, p, b) == (B, B, B) { (0, left_behind(B, Ok([0; B])).1) } else { (2, guarded(b)) };
+    // The limits on both sides, at every place of both lists.
+    for place in 0..B {
+        for v in LIMITS {
+            let mut one = [0; B];
+            one[place] = v;
+            for (first, pred) in [(one, [9; B]), ([9; B], one)] {
+                routine.told(call(&first, &pred, B), left_behind(B, rust(&first, &pred)), || format!("{v} at {place}"));
+            }
+        }
+    }
+    let (flat, wide) = ([0; 130], [32768; 130]);
+    for (f, p, b) in lengths([B, B, B]) {
+        let right = (f, p, b) == (B, B, B);
+        let wanted = if right { left_behind(B, Ok([0; B])) } else { (2, Guarded::filled(b)) };
         routine.told(call(&flat[..f], &flat[..p], b), wanted, || format!("lengths {f}, {p}, {b}"));
+        let wanted = (if right { 8 } else { 2 }, Guarded::filled(b));
+        routine.told(call(&wide[..f], &wide[..p], b), wanted, || format!("lengths {f}, {p}, {b}, numbers too large"));
     }
 }
 
@@ -320,11 +355,35 @@ fn into_plane(
     lists: bool,
 ) {
     let rounds = report.many(1_500_000);
-    let mut routine = report.routine(name);
+    let mut routine = report.routine(name, &[0, 2, 8]);
     let mut random = Random::new(9);
     let mut first = [0; 16];
     let mut samples = vec![0; 13_000];
     random.samples(&mut samples);
+    let one = |routine: &mut Routine, first: &[i32; 16], pred: &[u8], from: Square, rec_len: usize, to: Square| {
+        let (mut got, mut wanted) = (Guarded::filled(rec_len), Guarded::filled(rec_len));
+        let answer = port(first, pred, from, got.inner(), to);
+        let said = rust(first, pred, from, wanted.inner(), to).err().unwrap_or(0);
+        let pred_len = pred.len();
+        routine.told((answer, got), (said, wanted), || format!("{first:?}, prediction {pred_len} {from:?}, written {rec_len} {to:?}"));
+    };
+    // Every limit on both sides: strides and lengths of both squares.
+    let lens = |end: usize| [end, end - 1, end + 1, 0];
+    let near = Square { offset: 3, stride: 5 };
+    for stride in [0, 1, 3, 4, 5, 4095, 4096, 4097] {
+        for offset in [0, 1, 7] {
+            let edge = Square { offset, stride };
+            for len in lens(offset + 3 * stride + 4) {
+                one(&mut routine, &[64; 16], &samples[..len], edge, 40, near);
+                one(&mut routine, &[64; 16], &samples[..40], near, len, edge);
+            }
+        }
+    }
+    for (place, v) in (0..16).flat_map(|place| LIMITS.map(|v| (place, v))) {
+        let mut numbers = [0; 16];
+        numbers[place] = v;
+        one(&mut routine, &numbers, &samples[..40], near, 40, near);
+    }
     for round in 0..rounds {
         if round % 16 == 0 {
             random.samples(&mut samples[..300]);
@@ -332,17 +391,16 @@ fn into_plane(
         numbers(&mut random, &mut first);
         let (pred_len, rec_len) = if random.one_in(50) { (12_300, 12_310) } else { (random.below(140), random.below(140)) };
         let (from, to) = (square(&mut random, pred_len), square(&mut random, rec_len));
-        let (mut got, mut wanted) = (guarded(rec_len), guarded(rec_len));
-        let answer = port(&first, &samples[..pred_len], from, inner(&mut got), to);
-        let said = rust(&first, &samples[..pred_len], from, inner(&mut wanted), to).err().unwrap_or(0);
-        routine.told((answer, got), (said, wanted), || format!("{first:?}, prediction {pred_len} {from:?}, written {rec_len} {to:?}"));
+        one(&mut routine, &first, &samples[..pred_len], from, rec_len, to);
     }
     if lists {
         let square = Square { offset: 0, stride: 4 };
         for len in (0..40).filter(|&n| n != 16) {
-            let mut got = guarded(16);
-            let answer = port(&vec![0; len], &samples[..16], square, inner(&mut got), square);
-            routine.told((answer, got), (2, guarded(16)), || format!("a list of {len}"));
+            for v in [0, 32768] {
+                let mut got = Guarded::filled(16);
+                let answer = port(&vec![v; len], &samples[..16], square, got.inner(), square);
+                routine.told((answer, got), (2, Guarded::filled(16)), || format!("a list of {len}"));
+            }
         }
     }
 }
@@ -350,21 +408,21 @@ fn into_plane(
 fn small(report: &mut Report) {
     let many = report.many(2_000_000);
     let mut random = Random::new(3);
-    let mut routine = report.routine("clip_u8");
+    let mut routine = report.routine("clip_u8", &[0]);
     let ends = [i32::MIN, i32::MAX, i32::MIN + 1, i32::MAX - 1];
-    let anything: Vec<i32> = (0..many).map(|_| random.next() as i32).collect();
+    let anything: Vec<i32> = (0..many).map(|_| random.word() as i32).collect();
     for v in (-100_000..100_000).chain(ends).chain(anything) {
         routine.same(unsafe { jiwarbend_clip_u8(v) }, predict::clip_u8(v), || format!("{v}"));
     }
     drop(routine);
 
-    let mut routine = report.routine("chroma_qp");
+    let mut routine = report.routine("chroma_qp", &[0]);
     for qp in 0..=255 {
         routine.same(unsafe { jiwarbend_chroma_qp(qp) }, predict::chroma_qp(qp), || format!("{qp}"));
     }
     drop(routine);
 
-    let mut routine = report.routine("nc_from_neighbors");
+    let mut routine = report.routine("nc_from_neighbors", &[0]);
     for (ha, hb) in [(false, false), (false, true), (true, false), (true, true)] {
         for (a, b) in (0..=255).flat_map(|a| (0..=255).map(move |b| (a, b))) {
             let port = unsafe { jiwarbend_nc_from_neighbors(ha, a, hb, b) };
@@ -373,10 +431,10 @@ fn small(report: &mut Report) {
     }
     drop(routine);
 
-    let mut routine = report.routine("nnz_raster_from_z");
+    let mut routine = report.routine("nnz_raster_from_z", &[0, 2]);
     let call = |n: &[u8], len: usize| {
-        let mut buffer = guarded(len);
-        let out = inner(&mut buffer);
+        let mut buffer = Guarded::filled(len);
+        let out = buffer.inner();
         let answer = unsafe { jiwarbend_nnz_raster_from_z(n.as_ptr(), n.len(), out.as_mut_ptr(), out.len()) };
         (answer, buffer)
     };
@@ -385,13 +443,13 @@ fn small(report: &mut Report) {
         routine.told(call(&n, 24), left_behind(24, Ok(predict::nnz_raster_from_z(&n))), || format!("{n:?}"));
     }
     for (n, out) in (0..50).flat_map(|n| (0..50).map(move |out| (n, out))).filter(|&p| p != (24, 24)) {
-        routine.told(call(&[7; 50][..n], out), (2, guarded(out)), || format!("lengths {n}, {out}"));
+        routine.told(call(&[7; 50][..n], out), (2, Guarded::filled(out)), || format!("lengths {n}, {out}"));
     }
     drop(routine);
 
     type Set = unsafe extern "C" fn(bool, bool, bool) -> u16;
     let mut set = |name, export: Set, last, permitted: &dyn Fn(u8, Marks) -> bool, rust: &dyn Fn(u8, Marks) -> Option<bool>| {
-        let mut routine = report.routine(name);
+        let mut routine = report.routine(name, &[0]);
         for m in Marks::all() {
             let port = unsafe { export(m.above, m.left, m.corner) };
             routine.same(port as u32, rules::mode_set(last + 1, |mode| permitted(mode, m)), || format!("{m:?}"));
@@ -415,7 +473,7 @@ fn small(report: &mut Report) {
 
 fn inverse(report: &mut Report) {
     let rounds = report.many(3_000_000);
-    let mut routine = report.routine("inverse_4x4");
+    let mut routine = report.routine("inverse_4x4", &[0, 2, 8]);
     let mut random = Random::new(4);
     let mut deq = [0; 16];
     let call = |deq: &[i32], len: usize| {
@@ -451,91 +509,207 @@ fn inverse(report: &mut Report) {
 }
 
 fn start(report: &mut Report) {
-    let mut routine = report.routine("start");
+    let mut routine = report.routine("start", &[0, 1, 2]);
     let mut random = Random::new(8);
     let sizes = (0..=130u32).flat_map(|w| (0..=75u32).map(move |h| (w, h)));
     let far = [(u32::MAX, 1), (1, u32::MAX), (1 << 16, 1 << 16), (u32::MAX, u32::MAX), (1 << 31, 2)];
     for (w, h) in sizes.chain(far) {
         let right = (w as u64 * h as u64).min(9000) as usize;
         for len in [right, right + 1, right.saturating_sub(1), 0] {
-            let mut port = guarded(len);
-            inner(&mut port).iter_mut().for_each(|v| *v = random.byte());
+            let mut port = Guarded::filled(len);
+            port.inner().iter_mut().for_each(|v| *v = random.byte());
             let mut wanted = port.clone();
-            let mut progress = jiwarbend::Progress { count: random.next() as u32, last: random.next() as u32 };
-            let mut expected = driver::Progress { count: progress.count, last: progress.last };
-            let done = inner(&mut port);
-            let answer = unsafe { jiwarbend_start(w, h, done.as_mut_ptr(), done.len(), &mut progress) };
-            let said = driver::start(w, h, inner(&mut wanted), &mut expected);
-            let (got, expected) = ((progress.count, progress.last), (expected.count, expected.last));
-            routine.told((answer, (port, got)), (said, (wanted, expected)), || format!("{w} by {h}, a map of {len}"));
+            let mut progress = Guarded::new(&[random.word() as u32, random.word() as u32]);
+            let mut expected = progress.clone();
+            let done = port.inner();
+            let answer = unsafe { jiwarbend_start(w, h, done.as_mut_ptr(), done.len(), progress.inner().as_mut_ptr().cast()) };
+            let mut after = driver::Progress { count: expected.inner()[0], last: expected.inner()[1] };
+            let said = driver::start(w, h, wanted.inner(), &mut after);
+            expected.inner().copy_from_slice(&[after.count, after.last]);
+            routine.told((answer, (port, progress)), (said, (wanted, expected)), || format!("{w} by {h}, a map of {len}"));
         }
     }
 }
 
-/// Single calls over memory in any state, many of them bad in one way or several.
+/// A call of `rebuild`: the memory it is lent, the place, the record, and the lengths of the record's lists.
+struct Call {
+    memory: Memory,
+    x: u32,
+    y: u32,
+    record: Record,
+    modes: usize,
+    numbers: usize,
+}
+
+impl Call {
+    /// A call with a good record in a picture of this size, whose macroblocks are done or not. The planes have `pad` bytes more in a row.
+    fn new(random: &mut Random, (w, h): (u32, u32), pad: usize, kind: u8) -> Call {
+        let slices = slice_map(random, w, h);
+        let a = random.below((w * h) as usize);
+        let (x, y) = (a as u32 % w, a as u32 / w);
+        let n = driver::near(w as usize, &slices, x as usize, y as usize);
+        let mut memory = Memory::new(random, w, h, slices, pad);
+        let share = random.below(4);
+        for d in memory.done.inner() {
+            *d = if share > 0 && random.one_in(share * 6) { random.pick(&[0, 2, 255]) } else { 1 };
+        }
+        memory.done.inner()[a] = random.pick(&[0, 0, 2, 255]);
+        memory.progress = Guarded::new(&[random.below((w * h) as usize + 1) as u32, random.word() as u32]);
+        Call { memory, x, y, record: good_record(random, kind, n), modes: 16, numbers: 384 }
+    }
+
+    /// Whether planes of its size can be made: another bend may have taken it far away.
+    fn is_modest(&self) -> bool {
+        (1..10).contains(&self.memory.w) && (1..10).contains(&self.memory.h)
+    }
+
+    /// Compares both sides: the answer, all that was lent with the guards around it, and the record's lists.
+    fn compare(&self, routine: &mut Routine) {
+        let (mut modes, mut numbers) = (Guarded::new(&self.record.modes), Guarded::new(&self.record.numbers));
+        modes.resize(self.modes);
+        numbers.resize(self.numbers);
+        let (modes_before, numbers_before) = (modes.clone(), numbers.clone());
+        let (mut port, mut wanted, r) = (self.memory.clone(), self.memory.clone(), &self.record);
+        let answer = port.port(self.x, self.y, r.kind, modes.inner(), r.chroma_mode, numbers.inner());
+        let said = wanted.rust(self.x, self.y, r.kind, modes.inner(), r.chroma_mode, numbers.inner());
+        let kept = modes == modes_before && numbers == numbers_before;
+        routine.told((answer, (&port, kept)), (said, (&wanted, true)), || {
+            let m = &self.memory;
+            let lens: Vec<usize> = m.planes.iter().map(Guarded::len).collect();
+            format!(
+                "({}, {}) of {} by {}, strides {:?}, planes {lens:?}, done {}, slices {}, modes {}, numbers {}, kind {}",
+                self.x,
+                self.y,
+                m.w,
+                m.h,
+                m.strides,
+                m.done.len(),
+                m.slices.len(),
+                self.modes,
+                self.numbers,
+                r.kind
+            )
+        });
+    }
+}
+
+/// The ways in which a call is bent, each at its limit and one past it.
+type Bend = fn(&mut Call, &mut Random);
+
+fn resize<T: Copy + From<u8>>(list: &mut Guarded<T>, random: &mut Random) {
+    let right = list.len();
+    list.resize(random.pick(&lengths_of(right)));
+}
+
+const BENDS: [Bend; 24] = [
+    |c, _| c.memory.w = 0,
+    |c, _| c.memory.h = 0,
+    |c, random| c.memory.w = random.pick(&[121, u32::MAX, c.memory.w + 1]),
+    |c, random| c.memory.h = random.pick(&[69, u32::MAX, c.memory.h + 1]),
+    // A stride of the width, one less and one more, with the bytes that it needs.
+    |c, random| bend_stride(c, random, |width| [width, width - 1, width + 1]),
+    // The largest stride and its neighbours. Only flat pictures take it, for their planes are large then.
+    |c, random| {
+        if c.memory.h == 1 {
+            bend_stride(c, random, |_| [4095, 4096, 4097]);
+        }
+    },
+    |c, random| c.memory.strides[random.below(3)] = random.pick(&[0, usize::MAX, 1 << 61, 4096, 4097]),
+    // A plane of just the bytes it needs, one less, one more, and none.
+    |c, random| {
+        let (p, more) = (random.below(3), random.pick(&[0, 1, -1, isize::MIN]));
+        if c.is_modest() {
+            c.memory.restride(p, c.memory.strides[p].min(100));
+            let right = c.memory.planes[p].len() as isize;
+            c.memory.planes[p].resize(right.saturating_add(more).max(0) as usize);
+        }
+    },
+    |c, random| resize(&mut c.memory.done, random),
+    |c, random| resize(&mut c.memory.slices, random),
+    |c, random| c.modes = random.pick(&lengths_of(16)),
+    |c, random| c.numbers = random.pick(&lengths_of(384)),
+    |c, random| {
+        let all = c.memory.w.wrapping_mul(c.memory.h);
+        c.memory.progress.inner()[0] = random.pick(&[all, all.wrapping_add(1), u32::MAX, 0]);
+    },
+    |c, random| c.x = random.pick(&[c.memory.w, c.memory.w.wrapping_sub(1), u32::MAX]),
+    |c, random| c.y = random.pick(&[c.memory.h, c.memory.h.wrapping_sub(1), u32::MAX]),
+    // The macroblock is done, or nearly.
+    |c, random| {
+        let a = c.y.wrapping_mul(c.memory.w).wrapping_add(c.x) as usize;
+        if let Some(d) = c.memory.done.inner().get_mut(a) {
+            *d = random.pick(&[1, 1, 0, 2]);
+        }
+    },
+    // One neighbour is not done.
+    |c, random| {
+        let at = random.below(c.memory.done.len().max(1));
+        if let Some(d) = c.memory.done.inner().get_mut(at) {
+            *d = random.pick(&[0, 2, 255]);
+        }
+    },
+    |c, random| c.record.kind = random.pick(&[0, 1, 2, 3, 255]),
+    // A used mode at its limit: 8 and 9 for 4x4 and 8x8, 3 and 4 for 16x16.
+    |c, random| {
+        let (used, last) = [(16, 8), (4, 8), (1, 3), (1, 3)][c.record.kind.min(3) as usize];
+        c.record.modes[random.below(used)] = random.pick(&[last, last + 1, 255]);
+    },
+    // An unused mode, if there is one.
+    |c, random| {
+        let used = [16, 4, 1, 1][c.record.kind.min(3) as usize];
+        if used < 16 {
+            c.record.modes[used + random.below(16 - used)] = random.pick(&[0, 1, 2, 255]);
+        }
+    },
+    |c, random| c.record.modes[random.below(16)] = random.below(9) as u8,
+    |c, random| c.record.chroma_mode = random.pick(&[1, 2, 3, 3, 4, 255]),
+    |c, random| c.record.numbers[random.below(384)] = random.pick(&LIMITS),
+    |c, random| c.record.numbers[random.pick(&[0, 255, 256, 319, 320, 383])] = random.pick(&[32768, -32769, i32::MIN, i32::MAX]),
+];
+
+fn bend_stride(c: &mut Call, random: &mut Random, near: fn(usize) -> [usize; 3]) {
+    let p = random.below(3);
+    if c.is_modest() {
+        let width = [16, 8, 8][p] * c.memory.w as usize;
+        c.memory.restride(p, random.pick(&near(width)));
+    }
+}
+
+/// Single calls over memory in any state: each bend by itself at many sizes, then several at once or none.
 fn rebuild(report: &mut Report) {
     let rounds = report.many(400_000);
-    let mut routine = report.routine("rebuild");
+    let mut routine = report.routine("rebuild", &[0, 1, 2, 3, 4, 5, 6, 7, 8]);
     let mut random = Random::new(10);
-    for _ in 0..rounds {
-        let (w, h) = (1 + random.below(4) as u32, 1 + random.below(4) as u32);
-        let slices = slice_map(&mut random, w, h);
-        let pad = random.pick(&[0, 0, 1, 5]);
-        let mut port = Memory::new(&mut random, w, h, slices, pad);
-        let all_done = random.below(3);
-        port.done.iter_mut().for_each(|d| *d = if random.one_in(all_done * 8 + 2) { random.pick(&[0, 2, 255]) } else { 1 });
-        let a = random.below((w * h) as usize);
-        if !random.one_in(20) {
-            port.done[a] = random.pick(&[0, 0, 3]);
+    // Sizes at their limits with memory of that size, so that nothing else is wrong with them.
+    for size in [(120, 1), (121, 1), (1, 68), (1, 69), (119, 2), (2, 67), (120, 2), (121, 2)] {
+        for kind in 0..3 {
+            (0..4).for_each(|_| Call::new(&mut random, size, 0, kind).compare(&mut routine));
         }
-        port.progress = (random.below((w * h) as usize + 1) as u32, random.next() as u32);
-        let (mut x, mut y) = (a as u32 % w, a as u32 / w);
-        let n = driver::near(w as usize, &port.slices, x as usize, y as usize);
-        let kind = random.below(3) as u8;
-        let mut record = good_record(&mut random, kind, n);
-        let (mut modes_len, mut numbers_len) = (16, 384);
-        // Damage of each kind, at times several at once.
-        for _ in 0..random.pick(&[0, 0, 1, 1, 2, 4]) {
-            match random.below(16) {
-                0 => port.w = random.pick(&[0, 121, u32::MAX, w + 1]),
-                1 => port.h = random.pick(&[0, 69, u32::MAX, h + 1]),
-                2 => {
-                    let k = random.below(3);
-                    port.strides[k] = random.pick(&[0, port.strides[k] - 1, port.strides[k] + 1, 4097, usize::MAX, 1 << 61]);
-                }
-                3 => {
-                    let k = random.below(3);
-                    let len = port.planes[k].len();
-                    port.planes[k].truncate(random.pick(&[0, len - 1, len - 1 - pad, len / 2]));
-                }
-                4 => port.done.truncate(random.below((w * h) as usize)),
-                5 => port.slices.push(0),
-                6 => port.progress.0 = random.pick(&[w * h + 1, u32::MAX, w * h]),
-                7 => modes_len = random.pick(&[0, 15]),
-                8 => numbers_len = random.pick(&[0, 383]),
-                9 => x = random.pick(&[w, u32::MAX, x]),
-                10 => y = random.pick(&[h, u32::MAX, y]),
-                11 => record.kind = random.byte(),
-                12 => record.chroma_mode = random.pick(&[1, 2, 3, 4, 255]),
-                13 => record.modes[random.below(16)] = random.pick(&[0, 1, 3, 4, 5, 6, 7, 8, 9, 255]),
-                14 => record.numbers[random.below(384)] = random.pick(&[32768, -32769, i32::MIN, i32::MAX, 32767]),
-                _ => record.kind = random.below(3) as u8,
+    }
+    for bend in BENDS {
+        for size in [(1, 1), (2, 1), (3, 1), (2, 2), (3, 3)] {
+            for round in 0..60 {
+                let mut call = Call::new(&mut random, size, round % 2, (round % 3) as u8);
+                bend(&mut call, &mut random);
+                call.compare(&mut routine);
             }
         }
-        let mut wanted = port.clone();
-        let (modes, numbers) = (&record.modes[..modes_len], &record.numbers[..numbers_len]);
-        let answer = port.port(x, y, record.kind, modes, record.chroma_mode, numbers);
-        let said = wanted.rust(x, y, record.kind, modes, record.chroma_mode, numbers);
-        routine.told((answer, &port), (said, &wanted), || {
-            format!("({x}, {y}) of {} by {}: {answer}, not {said}; kind {}", wanted.w, wanted.h, record.kind)
-        });
+    }
+    for _ in 0..rounds {
+        let size = (1 + random.below(4) as u32, 1 + random.below(4) as u32);
+        let (pad, kind) = (random.pick(&[0, 0, 1, 5]), random.below(3) as u8);
+        let mut call = Call::new(&mut random, size, pad, kind);
+        for _ in 0..random.pick(&[0, 0, 1, 1, 2, 4]) {
+            random.pick(&BENDS)(&mut call, &mut random);
+        }
+        call.compare(&mut routine);
     }
 }
 
 /// Whole pictures, offered in a shuffled order with bad calls between, against the Rust in raster order.
 fn pictures(report: &mut Report) {
     let rounds = report.many(3000) / 10;
-    let mut routine = report.routine("pictures, any order");
+    let mut routine = report.routine("pictures, any order", &[0]);
     let mut random = Random::new(11);
     for round in 0..rounds {
         let (w, h) = match round {
@@ -575,15 +749,16 @@ fn pictures(report: &mut Report) {
                 break;
             }
         }
-        let finished = (steady, port.planes, port.done, port.progress.0);
-        routine.same(finished, (true, wanted.planes, wanted.done, w * h), || format!("picture {round}, {w} by {h}"));
+        let count = port.progress.inner()[0];
+        let finished = (steady, port.planes, port.done, port.slices, count);
+        routine.same(finished, (true, wanted.planes, wanted.done, wanted.slices, w * h), || format!("picture {round}, {w} by {h}"));
     }
 }
 
 fn main() {
     // A share of the random cases in percent: the whole run takes some minutes under an emulator.
     let scale = std::env::args().nth(1).map_or(100, |s| s.parse().expect("a share in percent"));
-    let mut report = Report { scale, passed: 0, failed: 0 };
+    let mut report = Report { scale, passed: 0, failed: 0, seen: [0; 9] };
     small(&mut report);
     predictor(&mut report, "intra4x4_pred", jiwarbend_intra4x4_pred, rules::intra4x4_pred);
     predictor(&mut report, "intra8x8_pred", jiwarbend_intra8x8_pred, rules::intra8x8_pred);
@@ -619,6 +794,10 @@ fn main() {
     start(&mut report);
     rebuild(&mut report);
     pictures(&mut report);
+    println!("\nall calls, by answer:");
+    for (answer, times) in report.seen.iter().enumerate() {
+        println!("  {answer} {times:>9}");
+    }
     println!("{} passed, {} failed", report.passed, report.failed);
     std::process::exit((report.failed > 0) as i32);
 }
