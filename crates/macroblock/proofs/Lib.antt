@@ -1,9 +1,9 @@
 -- The laws about this crate's definitions: the promise to the picture is `promised`.
-pub mod Held
-pub mod Acceptable
 pub mod ByKind
 pub mod Drawn
+pub mod Early
 pub mod Fitting
+pub mod Held
 pub mod Locality
 pub mod Pieces
 pub mod Places
@@ -12,6 +12,5 @@ pub mod Promised
 pub mod Rooms
 pub mod Scan
 pub mod Sides
-pub mod Stretches
 pub mod Sums
 pub mod Transforms

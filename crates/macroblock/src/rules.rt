@@ -11,6 +11,7 @@ ghost use Rattle.laws.specs.Answer.{answer};
 ghost use Rattle.maps.specs.Neighbours.{marksOf};
 ghost use Rattle.macroblock.specs.Kinds.{recordOf};
 ghost use Rattle.macroblock.specs.Rules.{room, rooms, used, lastMode, permittedFor, known, permitted, earlyRules};
+use super::cut::Sides;
 use super::cut::across;
 use super::cut::sides_of;
 use maps::neighbours::Marks;
@@ -148,8 +149,7 @@ fn is_permitted(marks: Marks, kind: u8, modes: &[u8], chroma_mode: u8) -> bool
     let m = across(kind);
     let mut k = 0;
     while k < n {
-        let s = sides_of(k, m, marks);
-        if !permits(kind, modes[k], s.above, s.left, s.corner) {
+        if !permits(kind, sides_of(k, m, marks), modes[k]) {
             return false;
         }
         k += 1;
@@ -157,11 +157,11 @@ fn is_permitted(marks: Marks, kind: u8, modes: &[u8], chroma_mode: u8) -> bool
     samples::marks::permits_chroma(chroma_mode, marks.b, marks.a, marks.d)
 }
 
-fn permits(kind: u8, mode: u8, above: bool, left: bool, corner: bool) -> bool
-    ensures { λ r. ⌜ r ≡ permittedFor kind above left corner mode ⌝ }
+fn permits(kind: u8, sides: Sides, mode: u8) -> bool
+    ensures { λ r. ⌜ r ≡ permittedFor kind sides mode ⌝ }
 {
     if kind < 2 {
-        return samples::marks::permits_nxn(mode, above, left, corner);
+        return samples::marks::permits_nxn(mode, sides.above, sides.left, sides.corner);
     }
-    samples::marks::permits_16x16(mode, above, left, corner)
+    samples::marks::permits_16x16(mode, sides.above, sides.left, sides.corner)
 }

@@ -3,7 +3,7 @@ use mathlib.Core.Path.{_≡_, refl, ap, _∙_}
 use Prim.Native.Nat.{_-_, _≤_}
 use native.Mathlib.Omega.{arith}
 use lib.ListN.{getD}
-use Rattle.macroblock.proofs.Stretches.{stretch, stretch-none, stretch-more, length-stretch}
+use Rattle.laws.proofs.Stretches.{stretch, stretch-none, stretch-more, length-stretch}
 use borrow.Author.Needs.{needs}
 use Rattle.macroblock.proofs.beside.copy.Statement.{statement}
 use Rattle.macroblock.proofs.beside.copy.Tie as tie
