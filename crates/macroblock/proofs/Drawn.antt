@@ -1,5 +1,5 @@
 -- A block that the code predicts from the sides it found, and puts, is the definition's part of the square. For every cut and rule. Assumes nothing.
-use mathlib.Core.Path.{_≡_, refl, sym, ap₂, _∙_}
+use mathlib.Core.Path.{_≡_, refl, ap₂, _∙_}
 use mathlib.Core.Bool.{Bool}
 use mathlib.Core.List.{List}
 use Prim.Native.Nat.{ℕ, _+_, _*_, _/_, _%_, _<_}
@@ -16,7 +16,6 @@ use Rattle.macroblock.specs.declared.cut.Place.{Place}
 use Rattle.macroblock.specs.declared.cut.Sides.{Sides}
 use Rattle.macroblock.specs.Cut.{Cut, scanX, scanY, isThere, sidesOf, squareSides, placeOf}
 use Rattle.macroblock.specs.Square.{putBlock, nearBlock, part}
-use Rattle.macroblock.specs.inner.Blocks.{Stands}
 use Rattle.macroblock.proofs.Pieces.{put-same}
 
 module _ (c : Cut) (predict : ℕ → Sides → Near → ℕ → ℕ → ℕ) (residual : ℕ → ℕ → ℕ → ℤ) (p : Place) (marks : Side → Bool) (k : ℕ) (some : 0 < c .side)

@@ -36,20 +36,21 @@ fn has_room(q: usize, len: usize, stride: usize, x: usize, y: usize, marks: Mark
 pub(crate) fn has_rooms(
     x: usize,
     y: usize,
-    luma_len: usize,
+    luma: &[u8],
     luma_stride: usize,
-    cb_len: usize,
+    cb: &[u8],
     cb_stride: usize,
-    cr_len: usize,
+    cr: &[u8],
     cr_stride: usize,
     marks: Marks,
 ) -> bool
     requires { ⌜ (x < 4294967296) × (y < 4294967296) ⌝ }
-    ensures { λ r. ⌜ r ≡ rooms x y «luma_len» «luma_stride» «cb_len» «cb_stride» «cr_len» «cr_stride» (marksOf marks) ⌝ }
+    ensures { λ r. ⌜ r ≡ rooms x y (length (now (luma .entry))) «luma_stride» (length (now (cb .entry))) «cb_stride»
+        (length (now (cr .entry))) «cr_stride» (marksOf marks) ⌝ }
 {
-    let luma = has_room(16, luma_len, luma_stride, x, y, marks);
-    let cb = has_room(8, cb_len, cb_stride, x, y, marks);
-    let cr = has_room(8, cr_len, cr_stride, x, y, marks);
+    let luma = has_room(16, luma.len(), luma_stride, x, y, marks);
+    let cb = has_room(8, cb.len(), cb_stride, x, y, marks);
+    let cr = has_room(8, cr.len(), cr_stride, x, y, marks);
     both(both(luma, cb), cr)
 }
 

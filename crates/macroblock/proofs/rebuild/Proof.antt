@@ -24,7 +24,7 @@ given u = let a = u .args in recordOf (a .kind) (a .modes .now) (a .chroma-mode)
 
 -- the ways back: from where there is room, where the modes are accepted, where the numbers are, and from each square
 abbrev start : tie.Else1 → tie.Start
-start c = c .before .before .before .before .before .before
+start c = c .before .before .before .before .before .before .before .before .before
 
 abbrev roomed : tie.Else2 → tie.Else1
 roomed c = c .before .before
@@ -109,21 +109,6 @@ returns-4 c =
 pub rebuild-spec : {M : Type 1} → statement M
 rebuild-spec =
     tie.close
-    (tie.spec
-    (λ c κs. search needs)
-    returns
-    (λ c κs. search needs)
-    returns-2
-    (λ c. search needs)
-    residuals-of-requires
-    returns-3
-    (λ c. search needs)
-    luma-square-requires
-    (λ c. search needs)
-    chroma-square-requires
-    (λ c. search needs)
-    chroma-square-requires-2
-    (λ c. search needs)
-    (λ c. search needs)
-    (λ c. search needs)
-    returns-4)
+    (tie.spec (λ c κs. search needs) (λ c. search needs) (λ c. search needs) (λ c. search needs) returns (λ c κs. search needs) (λ c. search needs) (λ c. search needs) (λ c. search needs) returns-2
+    (λ c. search needs) residuals-of-requires (λ c. search needs) (λ c. search needs) (λ c. search needs) returns-3 (λ c. search needs) luma-square-requires (λ c. search needs) chroma-square-requires
+    (λ c. search needs) chroma-square-requires-2 (λ c. search needs) (λ c. search needs) (λ c. search needs) returns-4)

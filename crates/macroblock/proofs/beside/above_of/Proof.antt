@@ -102,26 +102,11 @@ returns-3 c = let u = c .before .before .before in table-absent (length (u .args
 pub above-of-spec : {M : Type 1} → statement M
 above-of-spec =
     tie.close
-    (tie.spec
-    (λ c. let w = over (c .before) in omega arith)
-    (λ c. let w = over (c .before) in omega arith)
-    (λ c. let w = over (c .before .before) in omega arith)
-    (λ c. let w = over (c .before .before .before) in omega arith)
-    (λ c. let w = over (c .before .before .before) in omega arith)
-    (λ c. let w = over (c .before .before .before) in omega arith)
-    (λ c. let w = over (c .before .before .before) in omega arith)
-    (λ c. search needs)
-    copy-requires
+    (tie.spec (λ c. let w = over (c .before) in omega arith) (λ c. let w = over (c .before) in omega arith)
+    (λ c. let w = over (c .before .before) in omega arith) (λ c. let w = over (c .before .before .before) in omega arith)
+    (λ c. let w = over (c .before .before .before) in omega arith) (λ c. let w = over (c .before .before .before) in omega arith)
+    (λ c. let w = over (c .before .before .before) in omega arith) (λ c. search needs) copy-requires
     (λ c. let w = over (c .before .before .before .before .before .before .before .before .before) in omega arith)
-    (λ c. let w = over (c .before .before .before .before .before .before .before .before .before) in omega arith)
-    (λ c. search needs)
-    copy-requires-2
-    (λ c. let w = over (c .before .before .before .before .before .before .before .before .before) in omega arith)
-    (λ c. search needs)
-    shared-slice-read-fill
-    (λ c κs. search needs)
-    (λ c. search needs)
-    returns
-    (λ c. search needs)
-    returns-2
-    returns-3)
+    (λ c. let w = over (c .before .before .before .before .before .before .before .before .before) in omega arith) (λ c. search needs) copy-requires-2
+    (λ c. let w = over (c .before .before .before .before .before .before .before .before .before) in omega arith) (λ c. search needs) shared-slice-read-fill
+    (λ c κs. search needs) (λ c. search needs) returns (λ c. search needs) returns-2 returns-3)

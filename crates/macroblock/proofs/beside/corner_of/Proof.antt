@@ -34,13 +34,7 @@ returns-2 c = rw (c .if1 .left)
 pub corner-of-spec : {M : Type 1} → statement M
 corner-of-spec =
     tie.close
-    (tie.spec
-    (λ c. let w = here (c .before) in omega arith)
-    (λ c. let w = here (c .before) in omega arith)
-    (λ c. let w = here (c .before .before) in omega arith)
-    (λ c. let w = here (c .before .before .before) in omega arith)
-    (λ c. let w = here (c .before .before .before) in omega arith)
-    (λ c. let w = here (c .before .before .before) in omega arith)
-    (λ c. let w = here (c .before .before .before .before) in omega arith)
-    returns
-    returns-2)
+    (tie.spec (λ c. let w = here (c .before) in omega arith) (λ c. let w = here (c .before) in omega arith)
+    (λ c. let w = here (c .before .before) in omega arith) (λ c. let w = here (c .before .before .before) in omega arith)
+    (λ c. let w = here (c .before .before .before) in omega arith) (λ c. let w = here (c .before .before .before) in omega arith)
+    (λ c. let w = here (c .before .before .before .before) in omega arith) returns returns-2)

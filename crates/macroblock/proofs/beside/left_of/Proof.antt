@@ -61,21 +61,8 @@ returns-2 c = let u = c .before in table-absent (u .args .q) _ 0 (u .args .sides
 pub left-of-spec : {M : Type 1} → statement M
 left-of-spec =
     tie.close
-    (tie.spec
-    Inv-loop
-    μ-loop
-    loop-holds
-    (λ c. let w = here (c .before) in omega arith)
-    (λ c. let w = here (c .before) in omega arith)
-    (λ c. let w = here (c .before .before) in omega arith)
-    (λ c. let w = here (c .before .before .before) in omega arith)
-    (λ c. let w = here (c .before .before .before) in omega arith)
-    (λ c. let w = here (c .before .before .before) in omega arith)
-    (λ c. let w = here (c .before .before .before .before) in omega arith)
-    slice-write-out
-    (λ c. search needs)
-    (λ c. search needs)
-    loop-again
-    same-length
-    returns
-    returns-2)
+    (tie.spec Inv-loop μ-loop loop-holds (λ c. let w = here (c .before) in omega arith) (λ c. let w = here (c .before) in omega arith)
+    (λ c. let w = here (c .before .before) in omega arith) (λ c. let w = here (c .before .before .before) in omega arith)
+    (λ c. let w = here (c .before .before .before) in omega arith) (λ c. let w = here (c .before .before .before) in omega arith)
+    (λ c. let w = here (c .before .before .before .before) in omega arith) slice-write-out (λ c. search needs) (λ c. search needs) loop-again same-length
+    returns returns-2)

@@ -1,5 +1,5 @@
 -- `macroblock::cut::place_of` meets its contract: the place is near, so no product leaves 64 bits. Assumes nothing.
-use Prim.Native.Nat.{ℕ, _*_, _<_, _≤_}
+use Prim.Native.Nat.{ℕ, _*_, _≤_}
 use native.Mathlib.Nat.{mul-le-mul-left}
 use native.Mathlib.Omega.{arith}
 use Rattle.macroblock.proofs.Scan.{few-blocks}

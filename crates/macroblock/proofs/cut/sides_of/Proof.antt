@@ -34,12 +34,5 @@ returns c =
 pub sides-of-spec : {M : Type 1} → statement M
 sides-of-spec =
     tie.close
-    (tie.spec
-    scan-x-requires
-    scan-y-requires
-    (λ c κs. search needs)
-    (λ c κs. search needs)
-    (λ c κs. search needs)
-    (λ c κs. search needs)
-    has-above-right-requires
-    returns)
+    (tie.spec scan-x-requires scan-y-requires (λ c κs. search needs) (λ c κs. search needs) (λ c κs. search needs) (λ c κs. search needs)
+    has-above-right-requires returns)

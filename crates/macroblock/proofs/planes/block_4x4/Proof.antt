@@ -1,6 +1,6 @@
 -- `macroblock::planes::block_4x4` meets its contract: the block and its sides lie in the plane, the mode is not refused, and the sums are the definition's.
 -- Assumes nothing.
-use mathlib.Core.Path.{_≡_, sym, ap, subst, _∙_}
+use mathlib.Core.Path.{_≡_, sym, subst}
 use Prim.Native.Nat.{_+_, _*_}
 use native.Mathlib.Omega.{arith}
 use lib.ListN.{getD, length}
@@ -58,12 +58,5 @@ returns c numbers T =
 pub block-4x4-spec : {M : Type 1} → statement M
 block-4x4-spec =
     tie.close
-    (tie.spec
-    place-of-requires
-    sides-of-requires
-    shared-slice-read-predict-4x4
-    predict-4x4-requires
-    (λ c. search needs)
-    put-4x4-requires
-    (λ c. search needs)
+    (tie.spec place-of-requires sides-of-requires shared-slice-read-predict-4x4 predict-4x4-requires (λ c. search needs) put-4x4-requires (λ c. search needs)
     returns)

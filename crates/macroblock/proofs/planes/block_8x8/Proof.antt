@@ -59,12 +59,5 @@ returns c numbers T =
 pub block-8x8-spec : {M : Type 1} → statement M
 block-8x8-spec =
     tie.close
-    (tie.spec
-    place-of-requires
-    sides-of-requires
-    shared-slice-read-predict-8x8
-    predict-8x8-requires
-    (λ c. search needs)
-    put-8x8-requires
-    (λ c. search needs)
+    (tie.spec place-of-requires sides-of-requires shared-slice-read-predict-8x8 predict-8x8-requires (λ c. search needs) put-8x8-requires (λ c. search needs)
     returns)

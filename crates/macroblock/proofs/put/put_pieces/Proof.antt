@@ -91,27 +91,10 @@ returns c =
 pub put-pieces-spec : {M : Type 1} → statement M
 put-pieces-spec =
     tie.close
-    (tie.spec
-    Inv-loop
-    μ-loop
-    (λ c. (omega arith, steps-none _ _))
-    (λ c. search needs)
-    (λ c κs. few c)
-    (λ c κs. few (c .before))
-    (λ c. let h = here c in omega arith)
-    (λ c. let h = here c in omega arith)
-    (λ c. let h = here c in omega arith)
-    (λ c. let h = here c in omega arith)
-    (λ c. let h = here c in omega arith)
-    (λ c. let h = here (c .before) in omega arith)
-    (λ c. let h = here (c .before) in omega arith)
+    (tie.spec Inv-loop μ-loop (λ c. (omega arith, steps-none _ _)) (λ c. search needs) (λ c κs. few c) (λ c κs. few (c .before))
+    (λ c. let h = here c in omega arith) (λ c. let h = here c in omega arith) (λ c. let h = here c in omega arith) (λ c. let h = here c in omega arith)
+    (λ c. let h = here c in omega arith) (λ c. let h = here (c .before) in omega arith) (λ c. let h = here (c .before) in omega arith)
     (λ c. let h = here (c .before .before) in omega (arith, h .block .wide, h .block .short))
-    (λ c. let h = here (c .before .before) in omega (arith, h .block .wide, h .block .short))
-    (λ c. search needs)
-    (λ c. let h = few (c .before .before .before .before .before) in omega arith)
-    put-4x4-requires
-    (λ c. search needs)
-    (λ c. search needs)
-    loop-again
-    (λ c. long (c .before))
-    returns)
+    (λ c. let h = here (c .before .before) in omega (arith, h .block .wide, h .block .short)) (λ c. search needs)
+    (λ c. let h = few (c .before .before .before .before .before) in omega arith) put-4x4-requires (λ c. search needs) (λ c. search needs) loop-again
+    (λ c. long (c .before)) returns)

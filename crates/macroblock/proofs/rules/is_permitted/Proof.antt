@@ -71,18 +71,5 @@ returns-2 c numbers =
 pub is-permitted-spec : {M : Type 1} → statement M
 is-permitted-spec =
     tie.close
-    (tie.spec
-    Inv-loop
-    μ-loop
-    (λ c κs. search needs)
-    (λ c κs. search needs)
-    loop-holds
-    sides-of-requires
-    shared-slice-read-permits
-    (λ c κs. search needs)
-    returns
-    (λ c. search needs)
-    (λ c. search needs)
-    loop-again
-    (λ c κs. search needs)
-    returns-2)
+    (tie.spec Inv-loop μ-loop (λ c κs. search needs) (λ c κs. search needs) loop-holds sides-of-requires shared-slice-read-permits (λ c κs. search needs)
+    returns (λ c. search needs) (λ c. search needs) loop-again (λ c κs. search needs) returns-2)

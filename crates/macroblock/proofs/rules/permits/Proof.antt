@@ -19,10 +19,4 @@ returns-2 c =
     other-kind (λ n. c .permits-16x16 .result ≡ permittedFor n (a .sides) (a .mode)) (λ j. c .permits-16x16 .ensures) (a .kind) (λ e. omega arith) (λ e. omega arith)
 
 pub permits-spec : {M : Type 1} → statement M
-permits-spec =
-    tie.close
-    (tie.spec
-    (λ c κs. search needs)
-    returns
-    (λ c κs. search needs)
-    returns-2)
+permits-spec = tie.close (tie.spec (λ c κs. search needs) returns (λ c κs. search needs) returns-2)
