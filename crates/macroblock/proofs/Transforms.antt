@@ -22,7 +22,7 @@ use Rattle.residual.specs.Numbers.{inRange, allInRange}
 use Rattle.residual.proofs.InRange.{all-at, all-true}
 use Rattle.macroblock.specs.Kinds.{residual4x4}
 use Rattle.macroblock.specs.inner.Blocks.{Transformed, firstFor}
-use Rattle.macroblock.proofs.Stretches.{part-at}
+use Rattle.laws.proofs.Stretches.{part-at}
 
 -- ---- a list and its parts in range
 module _ (n : ℕ) (l : List ℤ) where
