@@ -7,6 +7,7 @@ pub mod Ints
 pub mod Ontos
 pub mod Patches
 pub mod Steps
+pub mod Stretches
 pub mod Sums
 pub mod Tables
 pub mod Tests

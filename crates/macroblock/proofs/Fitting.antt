@@ -2,37 +2,41 @@
 use mathlib.Core.Path.{_≡_}
 use mathlib.Core.Bool.{Bool, true, false, cond}
 use Prim.Native.Nat.{ℕ, suc, _+_, _*_, _-_, _<_, _≤_, min}
-use native.Mathlib.Nat.{mul-le-mul-right, suc-mul}
+use native.Mathlib.Nat.{mul-le-mul-right, suc-mul, mul-pos, le-mul-of-pos-right}
 use native.Mathlib.Omega.{arith}
-use Rattle.laws.proofs.Digits.{mul-pos, le-mul}
-use Rattle.macroblock.specs.inner.Blocks.{Fits}
+use Rattle.macroblock.specs.declared.cut.Place.{Place}
+use Rattle.macroblock.specs.inner.Blocks.{BlockIn, Low}
 
 -- row r of the block
-pub record InRow (q s Y Z n r : ℕ) : Type 0 where
-  pub line : Y * q + r ≤ n
-  pub product : (Y * q + r) * s ≤ n
-  pub whole : (Y * q + r) * s + (Z * q + q) ≤ n
+pub record InRow (q : ℕ) (p : Place) (n r : ℕ) : Type 0 where
+  pub line : p .row * q + r ≤ n
+  pub product : (p .row * q + r) * p .stride ≤ n
+  pub whole : (p .row * q + r) * p .stride + (p .column * q + q) ≤ n
 
-pub in-row : (q s Y Z n r : ℕ) → Fits q s Y Z n → r < q → InRow q s Y Z n r
-in-row q s Y Z n r F h =
-    let m : (Y * q + r) * s ≤ (Y * q + (q - 1)) * s = mul-le-mul-right s (omega arith) in
-    let p : Y * q + r ≤ (Y * q + r) * s = le-mul (Y * q + r) s (omega (arith, F .wide, F .some)) in
+pub in-row : {q n : ℕ} {p : Place} (r : ℕ) → BlockIn q p n → r < q → InRow q p n r
+in-row {q} {n} {p} r F h =
+    let m : (p .row * q + r) * p .stride ≤ (p .row * q + (q - 1)) * p .stride = mul-le-mul-right (p .stride) (omega arith) in
+    let l : p .row * q + r ≤ (p .row * q + r) * p .stride = le-mul-of-pos-right (p .row * q + r) (omega (arith, F .wide, F .some)) in
     record { line = omega (arith, F .within); product = omega (arith, F .within); whole = omega (arith, F .within) }
 
 -- the row above the block
-pub record InAbove (q s Y Z n : ℕ) : Type 0 where
-  pub some : 0 < Y * q
-  pub line : Y * q ≤ n
-  pub product : (Y * q - 1) * s ≤ n
-  pub whole : (m : ℕ) → m < s → (Y * q - 1) * s + m < n
+pub record InAbove (q : ℕ) (p : Place) (n : ℕ) : Type 0 where
+  pub some : 0 < p .row * q
+  pub line : p .row * q ≤ n
+  pub product : (p .row * q - 1) * p .stride ≤ n
+  pub whole : (m : ℕ) → m < p .stride → (p .row * q - 1) * p .stride + m < n
 
-pub in-above : (q s Y Z n : ℕ) → Fits q s Y Z n → 0 < Y → InAbove q s Y Z n
-in-above q s Y Z n F h =
-    let b : 0 < Y * q = mul-pos Y q h (F .some) in
-    let e : suc (Y * q - 1) * s ≡ (Y * q - 1) * s + s = suc-mul (Y * q - 1) s in
-    let f : suc (Y * q - 1) * s ≤ (Y * q + (q - 1)) * s = mul-le-mul-right s (omega arith) in
-    let g = in-row q s Y Z n 0 F (F .some) in
+pub in-above : {q n : ℕ} {p : Place} → BlockIn q p n → 0 < p .row → InAbove q p n
+in-above {q} {n} {p} F h =
+    let b : 0 < p .row * q = mul-pos h (F .some) in
+    let e : suc (p .row * q - 1) * p .stride ≡ (p .row * q - 1) * p .stride + p .stride = suc-mul (p .row * q - 1) (p .stride) in
+    let f : suc (p .row * q - 1) * p .stride ≤ (p .row * q + (q - 1)) * p .stride = mul-le-mul-right (p .stride) (omega arith) in
+    let g = in-row 0 F (F .some) in
     record { some = b; line = omega (arith, g .line); product = omega (arith, F .within); whole = λ m l. omega (arith, F .within) }
+
+-- a macroblock's place in a plane that fits the memory is near
+pub low : {n : ℕ} {p : Place} → BlockIn 16 p n → n < 18446744073709551616 → Low p
+low F h = let g = in-row 15 F (omega arith) in record { rows = omega (arith, g .line); columns = omega (arith, F .wide, F .short) }
 
 -- where the samples above stand that lie over the block, those to the right of these, and those that repeat the last
 pub reach-over : (l z q t : ℕ) (right : Bool) → t < q → l + z + t ≡ l + (z + min t (cond right (2 * q - 1) (q - 1)))

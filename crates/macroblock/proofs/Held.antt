@@ -3,21 +3,20 @@ use mathlib.Core.Path.{_≡_, refl, sym, ap, subst, _∙_}
 use mathlib.Core.Logic.{_⊎_, inl, inr}
 use mathlib.Core.Bool.{Bool, true, false, cond, _&&_}
 use Prim.Native.Nat.{ℕ, zero, suc, _+_, _*_, _-_, _/_, _<_, _≤_}
-use native.Mathlib.Nat.{suc-mul, mul-le-mul-right, not-suc-le-zero, lt-div-mul-add, div-div-eq-div-mul}
+use native.Mathlib.Nat.{suc-mul, mul-le-mul-right, not-suc-le-zero, lt-div-mul-add, div-div-eq-div-mul, mul-pos}
 use native.Mathlib.Omega.{arith}
 use borrow.Author.Tests.{eqb-true, eqb-false, leb-true, leb-false, ltb-true}
 use lib.Arith.{digits-div, digits-mod}
 use lib.Dec.{T, eqb, ltb, leb}
-use Rattle.laws.proofs.Digits.{mul-pos}
 use Rattle.laws.proofs.Tests.{T-true}
 use Rattle.residual.specs.Nnz.{blkIdx}
 use Rattle.maps.specs.Neighbours.{Side, besideX, besideY}
-use Rattle.macroblock.specs.Cut.{scanX, scanY, nextX, nextY, holderAt, heldBy, has}
+use Rattle.macroblock.specs.Cut.{scanX, scanY, nextX, nextY, holderAt, heldBy, isThere, squareSides, placeOf}
 use Rattle.maps.specs.Neighbours.Side.{A, B, C, D}
 use Rattle.macroblock.specs.Cut.Holder.{own, other, nobody}
-use Rattle.macroblock.specs.Square.{inBlock}
-use Rattle.macroblock.specs.inner.Blocks.{Scan, Beside}
-use Rattle.macroblock.proofs.Places.{block-of}
+use Rattle.macroblock.specs.Square.{placeAt}
+use Rattle.macroblock.specs.inner.Blocks.{Scan, SidesIn}
+use Rattle.macroblock.proofs.Places.{At, at-of}
 
 -- the row and the column of sample t on a side of the block of side q in row Y and column Z of blocks
 abbrev pub rowAt : (q Y : ℕ) → Side → ℕ → ℕ
@@ -64,7 +63,7 @@ after m z i hm e = ap (λ n. n / m) (let f : z * m + i - 1 ≡ (z + 1) * m + 0 =
 in-width : (q m s n b z : ℕ) → 0 < q → 0 < m → z * (q * m) + q * m ≤ s → n / q ≡ b → b / m ≡ z → n < s
 in-width q m s n b z hq hm hs e f =
     let g : n / (q * m) ≡ z = sym (div-div-eq-div-mul n q m) ∙ ap (λ n. n / m) e ∙ f in
-    let l : n < z * (q * m) + q * m = subst (λ w. n < w * (q * m) + q * m) g (lt-div-mul-add (mul-pos q m hq hm)) in
+    let l : n < z * (q * m) + q * m = subst (λ w. n < w * (q * m) + q * m) g (lt-div-mul-add (mul-pos hq hm)) in
     omega arith
 
 -- so does the macroblock before
@@ -73,12 +72,12 @@ narrower x z s h = let l : (x - 1) * z ≤ x * z = mul-le-mul-right z (omega ari
 
 -- ---- for a block of a macroblock whose marked neighbours are there
 module _ (q m s x y : ℕ) (marks : Side → Bool) (k : ℕ) (some : 0 < q) (S : Scan m) (hk : k < m * m) (wide : x * (q * m) + q * m ≤ s)
-    (N : Beside (q * m) s y x (marks B) (marks A) (marks D) (marks C)) where
+    (N : SidesIn (q * m) (placeAt s y x) (squareSides marks)) where
   -- place i lies in an earlier block, or in a marked neighbour
   abbrev pub Held : ℕ → Type 0
   Held i =
-      ((j : ℕ) × (j < k) × T (inBlock q s (y * m + scanY j) (x * m + scanX j) i))
-      ⊎ ((d : Side) × T (marks d) × T (inBlock (q * m) s (besideY y d) (besideX x d) i))
+      ((j : ℕ) × (j < k) × At q (placeOf m (placeAt s y x) j) i)
+      ⊎ ((d : Side) × T (marks d) × At (q * m) (placeAt s (besideY y d) (besideX x d)) i)
 
   -- sample row R and column E, in block row y * m + j - 1 and block column x * m + i - 1
   module _ (R E i j : ℕ) (hi : i ≤ m + 1) (hj : j ≤ m) (row : 0 < y * m + j → R / q ≡ y * m + j - 1) (column : 0 < x * m + i → E / q ≡ x * m + i - 1) where
@@ -89,7 +88,7 @@ module _ (q m s x y : ℕ) (marks : Side → Bool) (k : ℕ) (some : 0 < q) (S :
         inr (
           d,
           t,
-          block-of (q * m) s (besideY y d) (besideX x d) (R * s + E)
+          at-of (q * m) (placeAt s (besideY y d) (besideX x d)) (R * s + E)
               (rw (digits-div R l) (sym (div-div-eq-div-mul R q m) ∙ ap (λ z. z / m) (row h) ∙ e))
               (rw (digits-mod R l) (sym (div-div-eq-div-mul E q m) ∙ ap (λ z. z / m) (column g) ∙ f)),
         )
@@ -100,7 +99,7 @@ module _ (q m s x y : ℕ) (marks : Side → Bool) (k : ℕ) (some : 0 < q) (S :
         let ey : R / q ≡ y * m + scanY n = row (omega arith) ∙ (let e = S .of-y (i - 1) (j - 1) (omega arith) (omega arith) in omega arith) in
         let ex : E / q ≡ x * m + scanX n = column (omega arith) ∙ (let e = S .of-x (i - 1) (j - 1) (omega arith) (omega arith) in omega arith) in
         let w : E < s = in-width q m s E (x * m + i - 1) x some (S .some) wide (column (omega arith)) (inside m x i h l) in
-        inl (n, b, block-of q s (y * m + scanY n) (x * m + scanX n) (R * s + E) (rw (digits-div R w) ey) (rw (digits-mod R w) ex))
+        inl (n, b, at-of q (placeOf m (placeAt s y x) n) (R * s + E) (rw (digits-div R w) ey) (rw (digits-mod R w) ex))
 
     held-at : T (heldBy marks (holderAt m k i j)) → Held (R * s + E)
     held-at = go (eqb j 0) (eqb i 0) (leb i m) (ltb (blkIdx (i - 1) (j - 1)) k) refl refl refl refl
@@ -110,22 +109,22 @@ module _ (q m s x y : ℕ) (marks : Side → Bool) (k : ℕ) (some : 0 < q) (S :
         go true true b₃ b₄ e₁ e₂ e₃ e₄ t =
             let h = N .on-corner (T-true (marks D) t) in
             let z₁ = eqb-true j 0 e₁ in let z₂ = eqb-true i 0 e₂ in
-            let p₁ = mul-pos y m (h .0) (S .some) in let p₂ = mul-pos x m (h .1) (S .some) in
+            let p₁ = mul-pos (h .0) (S .some) in let p₂ = mul-pos (h .1) (S .some) in
             beyond D t (omega arith) (omega arith) (narrower x (q * m) s wide) (before m y j (S .some) (h .0) z₁) (before m x i (S .some) (h .1) z₂)
         go true false true b₄ e₁ e₂ e₃ e₄ t =
             let h = N .on-above (T-true (marks B) t) in
             let z₁ = eqb-true j 0 e₁ in let z₂ = eqb-false i 0 e₂ in let z₃ = leb-true i m e₃ in
-            let p₁ = mul-pos y m h (S .some) in
+            let p₁ = mul-pos h (S .some) in
             beyond B t (omega arith) (omega arith) wide (before m y j (S .some) h z₁) (inside m x i (omega arith) z₃)
         go true false false b₄ e₁ e₂ e₃ e₄ t =
-            let h = N .on-right (T-true (marks C) t) in
+            let h = N .on-above-right (T-true (marks C) t) in
             let z₁ = eqb-true j 0 e₁ in let z₃ = leb-false i m e₃ in
-            let p₁ = mul-pos y m (h .0) (S .some) in
+            let p₁ = mul-pos (h .0) (S .some) in
             beyond C t (omega arith) (omega arith) (omega (arith, h .1)) (before m y j (S .some) (h .0) z₁) (after m x i (S .some) (omega arith))
         go false true b₃ b₄ e₁ e₂ e₃ e₄ t =
             let h = N .on-left (T-true (marks A) t) in
             let z₁ = eqb-false j 0 e₁ in let z₂ = eqb-true i 0 e₂ in
-            let p₂ = mul-pos x m h (S .some) in
+            let p₂ = mul-pos h (S .some) in
             beyond A t (omega arith) (omega arith) (narrower x (q * m) s wide) (inside m y j (omega arith) hj) (before m x i (S .some) h z₂)
         go false false true true e₁ e₂ e₃ e₄ t =
             let z₁ = eqb-false j 0 e₁ in let z₂ = eqb-false i 0 e₂ in
@@ -147,8 +146,8 @@ module _ (q m s x y : ℕ) (marks : Side → Bool) (k : ℕ) (some : 0 < q) (S :
   next-y D = omega (arith, S .y-lt k hk)
 
   -- a sample on a side that is there
-  pub held : (d : Side) (t : ℕ) → t < q → T (has m marks k d) → Held (rowAt q (y * m + scanY k) d t * s + columnAt q (x * m + scanX k) d t)
-  unfolding has
+  pub held : (d : Side) (t : ℕ) → t < q → T (isThere m marks k d) → Held (rowAt q (y * m + scanY k) d t * s + columnAt q (x * m + scanX k) d t)
+  unfolding isThere
   held d t ht h =
       held-at (rowAt q (y * m + scanY k) d t) (columnAt q (x * m + scanX k) d t) (nextX (scanX k) d) (nextY (scanY k) d) (next-x d) (next-y d)
       (row-div q (y * m) (scanY k) t d ht) (column-div q (x * m) (scanX k) t d ht) h

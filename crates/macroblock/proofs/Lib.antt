@@ -1,17 +1,16 @@
--- The laws about this crate's definitions: the promise to the picture is `promised`.
-pub mod Held
-pub mod Acceptable
-pub mod ByKind
-pub mod Drawn
-pub mod Fitting
-pub mod Locality
-pub mod Pieces
+-- The laws about this crate's definitions: the promise to the picture is `promised`, and what lies in a block is `Places`. The others serve the proofs here.
 pub mod Places
-pub mod Predicted
 pub mod Promised
-pub mod Rooms
-pub mod Scan
-pub mod Sides
-pub mod Stretches
-pub mod Sums
-pub mod Transforms
+mod ByKind
+mod Drawn
+mod Early
+mod Fitting
+mod Held
+mod Locality
+mod Pieces
+mod Predicted
+mod Rooms
+mod Scan
+mod Sides
+mod Sums
+mod Transforms

@@ -2,21 +2,21 @@
 use mathlib.Core.Path.{_≡_}
 use mathlib.Core.Bool.{Bool, true, not, _&&_, _||_}
 use Prim.Native.Nat.{ℕ, _+_, _*_, _-_, _<_}
+use native.Mathlib.Omega.{arith}
 use borrow.Author.Tests.{leb-true, ltb-true}
 use lib.Dec.{ltb, leb}
 use Rattle.laws.proofs.Tests.{and-left, and-right, and-both, implied}
 use Rattle.maps.specs.Neighbours.{Side}
 use Rattle.maps.specs.Neighbours.Side.{A, B, C, D}
-use Rattle.macroblock.specs.Rules.{room}
-use Rattle.macroblock.specs.inner.Blocks.{Fits, Beside}
+use Rattle.macroblock.specs.Cut.{squareSides}
+use Rattle.macroblock.specs.Square.{placeAt}
+use Rattle.macroblock.specs.Rules.{room, rooms}
+use Rattle.macroblock.specs.inner.Blocks.{Stands}
 
-pub record Roomy (q len s x y : ℕ) (marks : Side → Bool) : Type 0 where
-  pub fits : Fits q s y x len
-  pub beside : Beside q s y x (marks B) (marks A) (marks D) (marks C)
-
-pub roomy : (q len s x y : ℕ) (marks : Side → Bool) → 0 < q → room q len s x y marks ≡ true → Roomy q len s x y marks
+-- the square of side q
+pub stands : (q len s x y : ℕ) (marks : Side → Bool) → 0 < q → room q len s x y marks ≡ true → Stands q (placeAt s y x) len (squareSides marks)
 unfolding room
-roomy q len s x y marks some e =
+stands q len s x y marks some e =
     let t₁ = leb s 4096 in let t₂ = leb (x * q + q) s in let t₃ = leb ((y * q + (q - 1)) * s + (x * q + q)) len in
     let ta = not (marks A) || ltb 0 x in let tb = not (marks B) || ltb 0 y in
     let tc = not (marks C) || (ltb 0 y && leb (x * q + q + q) s) in let td = not (marks D) || (ltb 0 x && ltb 0 y) in
@@ -26,7 +26,7 @@ roomy q len s x y marks some e =
     let e₃ = and-left (t₁ && t₂ && t₃) ta e₄ in
     let e₂ = and-left (t₁ && t₂) t₃ e₃ in
     record {
-      fits = record {
+      block = record {
         some = some;
         short = leb-true s 4096 (and-left t₁ t₂ e₂);
         wide = leb-true (x * q + q) s (and-right t₁ t₂ e₂);
@@ -38,8 +38,25 @@ roomy q len s x y marks some e =
         on-corner = λ h.
             let f = and-both (ltb 0 x) (ltb 0 y) (implied (marks D) _ (and-right (t₁ && t₂ && t₃ && ta && tb && tc) td e) h) in
             (ltb-true 0 y (f .1), ltb-true 0 x (f .0));
-        on-right = λ h.
+        on-above-right = λ h.
             let f = and-both (ltb 0 y) (leb (x * q + q + q) s) (implied (marks C) _ (and-right (t₁ && t₂ && t₃ && ta && tb) tc e₆) h) in
             (ltb-true 0 y (f .0), leb-true (x * q + q + q) s (f .1));
       };
     }
+
+-- and the squares of the three planes
+module _ (x y lumaLen lumaStride cbLen cbStride crLen crStride : ℕ) (marks : Side → Bool) where
+  pub record AllStand : Type 0 where
+    pub luma : Stands 16 (placeAt lumaStride y x) lumaLen (squareSides marks)
+    pub cb : Stands 8 (placeAt cbStride y x) cbLen (squareSides marks)
+    pub cr : Stands 8 (placeAt crStride y x) crLen (squareSides marks)
+
+  pub all-stand : rooms x y lumaLen lumaStride cbLen cbStride crLen crStride marks ≡ true → AllStand
+  all-stand e =
+      let t₁ = room 16 lumaLen lumaStride x y marks in let t₂ = room 8 cbLen cbStride x y marks in let t₃ = room 8 crLen crStride x y marks in
+      let f = and-left (t₁ && t₂) t₃ e in
+      record {
+        luma = stands 16 lumaLen lumaStride x y marks (omega arith) (and-left t₁ t₂ f);
+        cb = stands 8 cbLen cbStride x y marks (omega arith) (and-right t₁ t₂ f);
+        cr = stands 8 crLen crStride x y marks (omega arith) (and-right (t₁ && t₂) t₃ e);
+      }

@@ -1,17 +1,15 @@
 -- The scan of 1, 4 and 16 blocks: places and numbers answer one another, and the blocks to the left and above come first. The first by computing both at
 -- each block, the second since blkIdx grows with the place. Assumes nothing.
-use mathlib.Core.Path.{_≡_, refl}
+use mathlib.Core.Path.{_≡_}
 use mathlib.Core.Bool.{Bool, _&&_}
-use mathlib.Core.List.{[], _∷_}
-use Prim.Native.Nat.{ℕ, _*_, _-_, _<_}
+use Prim.Native.Nat.{ℕ, _*_, _-_, _<_, _≤_}
+use native.Mathlib.Nat.{mul-le-mul}
 use native.Mathlib.Omega.{arith}
 use lib.Dec.{T, ltb, eqb, eqb→eq, ltb→lt}
-use Rattle.laws.specs.Table.{allBelow, table}
+use Rattle.laws.specs.Table.{allBelow}
 use Rattle.laws.proofs.Tests.{below, both-left, both-right}
 use Rattle.residual.specs.Nnz.{blkIdx}
-use Rattle.macroblock.specs.Cut.{Holder, scanX, scanY, holderAt, nextX, nextY}
-use Rattle.maps.specs.Neighbours.Side.{B, C}
-use Rattle.macroblock.specs.Cut.Holder.{own, other, nobody}
+use Rattle.macroblock.specs.Cut.{scanX, scanY}
 use Rattle.macroblock.specs.inner.Blocks.{Scan}
 
 module _ (m : ℕ) where
@@ -60,16 +58,6 @@ above-first u v k h e = omega arith
 pub corner-first : (u v k : ℕ) → 0 < u → 0 < v → blkIdx u v ≡ k → blkIdx (u - 1) (v - 1) < k
 corner-first u v k hu hv e = omega arith
 
--- "A 4x4 block's above-right is unavailable for scan indices 3, 7, 11, 13, 15; index 5 takes it from C, indices 0, 1, 4 from B, the rest from earlier blocks.
--- For 8x8: block 0 from B, 1 from C, 2 from block 1, 3 never."
-abbrev rightOf : ℕ → ℕ → Holder
-rightOf m k = holderAt m k (nextX (scanX k) C) (nextY (scanY k) C)
-
-pub above-right-4x4 : table 16 (rightOf 4)
-    ≡ other B ∷ other B ∷ own ∷ nobody ∷ other B ∷ other C ∷ own ∷ nobody ∷ own ∷ own ∷ own ∷ nobody ∷ own ∷ nobody ∷ own ∷ nobody ∷ []
-unfolding table scanX scanY
-above-right-4x4 = refl
-
-pub above-right-8x8 : table 4 (rightOf 2) ≡ other B ∷ other C ∷ own ∷ nobody ∷ []
-unfolding table scanX scanY
-above-right-8x8 = refl
+-- sixteen blocks at most
+pub few-blocks : (k m : ℕ) → k < m * m → m ≤ 4 → k < 16
+few-blocks k m h l = omega (arith, mul-le-mul l l)

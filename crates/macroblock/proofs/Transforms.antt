@@ -16,6 +16,7 @@ use Rattle.laws.specs.Answer.{_unless_, answer}
 use Rattle.laws.specs.Range.{at}
 use Rattle.laws.specs.Table.{table}
 use Rattle.laws.proofs.Answers.{holds}
+use Rattle.laws.proofs.Stretches.{part-at}
 use Rattle.laws.proofs.Tables.{length-table, getD-table, table-same}
 use Rattle.laws.proofs.Tests.{not-both, no-from, same-test, true-T, T-true}
 use Rattle.residual.specs.Inverse.{inverse4x4, inverseBlocks}
@@ -23,7 +24,6 @@ use Rattle.residual.specs.Numbers.{inRange, allInRange}
 use Rattle.residual.proofs.InRange.{all-at, all-true}
 use Rattle.macroblock.specs.Kinds.{residual4x4}
 use Rattle.macroblock.specs.inner.Blocks.{Transformed, firstFor}
-use Rattle.macroblock.proofs.Stretches.{part-at}
 
 -- ---- a list and its parts in range
 module _ (n : ℕ) (l : List ℤ) where

@@ -9,6 +9,8 @@ use Rattle.laws.specs.Table.{table}
 use Rattle.residual.specs.Nnz.{blkIdx}
 use Rattle.maps.specs.Neighbours.{Side}
 use Rattle.maps.specs.Neighbours.Side.{A, B, C, D}
+use Rattle.macroblock.specs.declared.cut.Place.{Place}
+use Rattle.macroblock.specs.declared.cut.Sides.{Sides}
 
 -- blocks of `side` by `side` samples, `across` of them in a row and in a column of the square; a block's rule reads `wide` samples above it
 pub record Cut : Type 0 where
@@ -29,8 +31,8 @@ eight = record { side = 8; across = 2; wide = 16 }
 abbrev pub whole : ℕ → Cut
 whole q = record { side = q; across = 1; wide = q }
 
--- 6.4.3: block k stands in column scanX k and row scanY k of blocks, and blkIdx is its number from there. Four blocks are numbered by 6.4.5 and 6.4.7,
--- row by row, which is the same
+-- 6.4.3: block k stands in column scanX k and row scanY k of blocks, and blkIdx (residual/specs/Nnz) is its number from there: each undoes the other
+-- (inner/Blocks Scan, shown in proofs/Scan). Four blocks are numbered by 6.4.5 and 6.4.7, row by row, which is the same
 unfoldable pub scanX : ℕ → ℕ
 scanX k = k / 4 % 2 * 2 + k % 4 % 2
 
@@ -81,5 +83,16 @@ heldBy marks (other d) = marks d
 heldBy marks nobody = false
 
 -- are the samples on a side of block k there, with m blocks across?
-unfoldable pub has : ℕ → (Side → Bool) → ℕ → Side → Bool
-has m marks k d = heldBy marks (holderAt m k (nextX (scanX k) d) (nextY (scanY k) d))
+unfoldable pub isThere : ℕ → (Side → Bool) → ℕ → Side → Bool
+isThere m marks k d = heldBy marks (holderAt m k (nextX (scanX k) d) (nextY (scanY k) d))
+
+-- 6.4.11: the sides of block k, and those of a square that is one block
+abbrev pub sidesOf : ℕ → (Side → Bool) → ℕ → Sides
+sidesOf m marks k = record { above = isThere m marks k B; left = isThere m marks k A; corner = isThere m marks k D; «above_right» = isThere m marks k C }
+
+abbrev pub squareSides : (Side → Bool) → Sides
+squareSides marks = record { above = marks B; left = marks A; corner = marks D; «above_right» = marks C }
+
+-- 6.4.3: where block k stands, of m across in a square that stands at p
+abbrev pub placeOf : ℕ → Place → ℕ → Place
+placeOf m p k = record { stride = p .stride; row = p .row * m + scanY k; column = p .column * m + scanX k }

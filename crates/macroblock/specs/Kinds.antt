@@ -16,8 +16,9 @@ use Rattle.samples.specs.Near.{Near}
 use Rattle.residual.specs.Nnz.{blkIdx}
 use Rattle.maps.specs.Neighbours.{Side}
 use Rattle.macroblock.specs.declared.Record.{Record}
+use Rattle.macroblock.specs.declared.cut.Sides.{Sides}
 use Rattle.macroblock.specs.Cut.{Cut, four, eight, whole}
-use Rattle.macroblock.specs.Square.{Rule, square}
+use Rattle.macroblock.specs.Square.{Rule, allParts}
 
 -- a record by its parts, as a call is given them
 abbrev pub recordOf : ℕ → List ℕ → ℕ → List ℤ → Record
@@ -44,27 +45,26 @@ cutFor zero = four
 cutFor (suc zero) = eight
 cutFor (suc (suc _)) = whole 16
 
-abbrev pub predFor : ℕ → ℕ → Bool → Bool → Bool → Near → ℕ → ℕ → ℕ
-predFor zero mode above left corner p = pred4x4L mode above left corner p
-predFor (suc zero) mode above left corner p = pred8x8L mode above left corner p
-predFor (suc (suc _)) mode above left corner p = predL mode above left p
+abbrev pub predFor : ℕ → ℕ → Sides → Near → ℕ → ℕ → ℕ
+predFor zero mode sides p = pred4x4L mode (sides .above) (sides .left) (sides .corner) p
+predFor (suc zero) mode sides p = pred8x8L mode (sides .above) (sides .left) (sides .corner) p
+predFor (suc (suc _)) mode sides p = predL mode (sides .above) (sides .left) p
 
 -- 8.5.14: u = Clip1( pred + r )
 abbrev pub lumaRule : ℕ → List ℕ → List ℤ → Rule
-lumaRule kind modes numbers k above left corner p x y =
-    Clip1 (pos (predFor kind (getD modes k 0) above left corner p x y) +ℤ residualL kind numbers k x y)
+lumaRule kind modes numbers k sides p x y = Clip1 (pos (predFor kind (getD modes k 0) sides p x y) +ℤ residualL kind numbers k x y)
 
 -- ---- chroma, whose residuals are those of the coefficient blocks from b on
 abbrev pub chromaRule : ℕ → List ℤ → ℕ → Rule
-chromaRule mode numbers b k above left corner p x y = Clip1 (pos (predC mode above left p x y) +ℤ residualIn numbers b x y)
+chromaRule mode numbers b k sides p x y = Clip1 (pos (predC mode (sides .above) (sides .left) p x y) +ℤ residualIn numbers b x y)
 
 -- ---- what is left of each plane, with stride s, where macroblock (x, y) is rebuilt from record r by the marks of its neighbours
 module _ (x y : ℕ) (marks : Side → Bool) (r : Record) (s : ℕ) where
   abbrev pub lumaSquare : List ℕ → List ℕ
-  lumaSquare plane = square (cutFor (r .kind)) (lumaRule (r .kind) (r .modes) (r .numbers)) s x y marks plane
+  lumaSquare plane = allParts (cutFor (r .kind)) (lumaRule (r .kind) (r .modes) (r .numbers)) s x y marks plane
 
   abbrev pub cbSquare : List ℕ → List ℕ
-  cbSquare plane = square (whole 8) (chromaRule (r .«chroma_mode») (r .numbers) 16) s x y marks plane
+  cbSquare plane = allParts (whole 8) (chromaRule (r .«chroma_mode») (r .numbers) 16) s x y marks plane
 
   abbrev pub crSquare : List ℕ → List ℕ
-  crSquare plane = square (whole 8) (chromaRule (r .«chroma_mode») (r .numbers) 20) s x y marks plane
+  crSquare plane = allParts (whole 8) (chromaRule (r .«chroma_mode») (r .numbers) 20) s x y marks plane

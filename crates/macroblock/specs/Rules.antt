@@ -10,7 +10,8 @@ use Rattle.samples.specs.Marks.{permittedNxN, permitted16x16, permittedChroma}
 use Rattle.residual.specs.Numbers.{allInRange}
 use Rattle.maps.specs.Neighbours.{Side}
 use Rattle.macroblock.specs.declared.Record.{Record}
-use Rattle.macroblock.specs.Cut.{has}
+use Rattle.macroblock.specs.declared.cut.Sides.{Sides}
+use Rattle.macroblock.specs.Cut.{sidesOf}
 use Rattle.maps.specs.Neighbours.Side.{A, B, C, D}
 use Rattle.macroblock.specs.Kinds.{cutFor}
 
@@ -52,16 +53,14 @@ modeKnown kind modes k = cond (ltb k (used kind)) (leb (getD modes k 0) (lastMod
 unfoldable pub known : Record → Bool
 known r = leb (r .kind) 2 && allBelow 16 (modeKnown (r .kind) (r .modes)) && leb (r .«chroma_mode») 3
 
--- 7: each used mode is permitted where it stands, by the marks of whoever holds the samples above, left and at the corner
-abbrev pub permittedFor : ℕ → Bool → Bool → Bool → ℕ → Bool
-permittedFor zero = permittedNxN
-permittedFor (suc zero) = permittedNxN
-permittedFor (suc (suc _)) = permitted16x16
+-- 7: each used mode is permitted where it stands, by the sides of its block that are there
+abbrev pub permittedFor : ℕ → Sides → ℕ → Bool
+permittedFor zero sides = permittedNxN (sides .above) (sides .left) (sides .corner)
+permittedFor (suc zero) sides = permittedNxN (sides .above) (sides .left) (sides .corner)
+permittedFor (suc (suc _)) sides = permitted16x16 (sides .above) (sides .left) (sides .corner)
 
 abbrev pub permittedAt : ℕ → List ℕ → (Side → Bool) → ℕ → Bool
-permittedAt kind modes marks k =
-    let m = cutFor kind .across in
-    permittedFor kind (has m marks k B) (has m marks k A) (has m marks k D) (getD modes k 0)
+permittedAt kind modes marks k = permittedFor kind (sidesOf (cutFor kind .across) marks k) (getD modes k 0)
 
 unfoldable pub permitted : (Side → Bool) → Record → Bool
 permitted marks r =

@@ -10,56 +10,61 @@ use Rattle.laws.specs.Steps.{upTo}
 use Rattle.laws.specs.Table.{table}
 use Rattle.samples.specs.Near.{Near, near}
 use Rattle.maps.specs.Neighbours.{Side}
-use Rattle.macroblock.specs.Cut.{Cut, blocks, scanX, scanY, has}
-use Rattle.maps.specs.Neighbours.Side.{A, B, C, D}
+use Rattle.macroblock.specs.declared.cut.Place.{Place}
+use Rattle.macroblock.specs.declared.cut.Sides.{Sides}
+use Rattle.macroblock.specs.Cut.{Cut, blocks, sidesOf, placeOf}
 
--- a plane with stride s, cut into blocks of side q: place i lies in the block in row Y and column Z of blocks
-abbrev pub inBlock : (q s Y Z i : ℕ) → Bool
-inBlock q s Y Z i = eqb (i / s / q) Y && eqb (i % s / q) Z
+-- a plane cut into blocks of one side: place i lies in the block in that row and column of blocks
+abbrev pub inBlock : (side stride row column i : ℕ) → Bool
+inBlock side stride row column i = eqb (i / stride / side) row && eqb (i % stride / side) column
 
--- the plane with that block put anew: u x y in its column x and row y
-abbrev pub putBlock : (q s Y Z : ℕ) → (ℕ → ℕ → ℕ) → List ℕ → List ℕ
-putBlock q s Y Z u plane = patch (inBlock q s Y Z) (λ i. u (i % s % q) (i / s % q)) plane
+abbrev pub placeAt : (stride row column : ℕ) → Place
+placeAt stride row column = record { stride = stride; row = row; column = column }
 
--- ---- the samples beside that block. An absent side is not read, and shows as 0
-module _ (q s Y Z : ℕ) (plane : List ℕ) where
+-- the plane with the block at p put anew: u x y in its column x and row y
+abbrev pub putBlock : ℕ → Place → (ℕ → ℕ → ℕ) → List ℕ → List ℕ
+putBlock side p u plane = patch (inBlock side (p .stride) (p .row) (p .column)) (λ i. u (i % p .stride % side) (i / p .stride % side)) plane
+
+-- ---- the samples beside the block at p. An absent side is not read, and shows as 0
+module _ (side : ℕ) (p : Place) (plane : List ℕ) (sides : Sides) where
+  -- the sample in column x and row y of the plane
+  abbrev sampleAt : ℕ → ℕ → ℕ
+  sampleAt x y = getD plane (y * p .stride + x) 0
+
   -- n samples above: they go on above and to the right where that is there, else the last one is repeated (8.3.1.2, 8.3.2.2)
-  unfoldable pub aboveOf : ℕ → Bool → Bool → List ℕ
-  aboveOf n there right = table n (λ t. cond there (getD plane ((Y * q - 1) * s + (Z * q + min t (cond right (2 * q - 1) (q - 1)))) 0) 0)
+  unfoldable pub aboveOf : ℕ → List ℕ
+  aboveOf n =
+      table n (λ t. cond (sides .above) (sampleAt (p .column * side + min t (cond (sides .«above_right») (2 * side - 1) (side - 1))) (p .row * side - 1)) 0)
 
-  unfoldable pub leftOf : Bool → List ℕ
-  leftOf there = table q (λ t. cond there (getD plane ((Y * q + t) * s + (Z * q - 1)) 0) 0)
+  unfoldable pub leftOf : List ℕ
+  leftOf = table side (λ t. cond (sides .left) (sampleAt (p .column * side - 1) (p .row * side + t)) 0)
 
-  unfoldable pub cornerOf : Bool → ℕ
-  cornerOf there = cond there (getD plane ((Y * q - 1) * s + (Z * q - 1)) 0) 0
+  unfoldable pub cornerOf : ℕ
+  cornerOf = cond (sides .corner) (sampleAt (p .column * side - 1) (p .row * side - 1)) 0
 
-  -- the neighbourhood with n samples above, from the marks of above, left, the corner, and above and to the right
-  abbrev pub around : ℕ → Bool → Bool → Bool → Bool → Near
-  around n above left corner right = near (aboveOf n above right) (leftOf left) (cornerOf corner)
+  -- the neighbourhood with n samples above
+  abbrev pub nearBlock : ℕ → Near
+  nearBlock n = near (aboveOf n) leftOf cornerOf
 
--- a block's sample in column x and row y: from the block's number, the marks of above, left and corner, and the neighbourhood
+-- a block's sample in column x and row y: from the block's number, its sides and its neighbourhood
 abbrev pub Rule : Type 0
-Rule = ℕ → Bool → Bool → Bool → Near → ℕ → ℕ → ℕ
+Rule = ℕ → Sides → Near → ℕ → ℕ → ℕ
 
--- macroblock (x, y) of a plane with stride s, whose neighbours have the marks
-module _ (c : Cut) (rule : Rule) (s x y : ℕ) (marks : Side → Bool) where
-  -- where block k stands in the plane, and which of its sides are there
-  abbrev pub rowOf : ℕ → ℕ
-  rowOf k = y * c .across + scanY k
+-- macroblock (x, y) of a plane with that stride, whose neighbours have the marks
+module _ (c : Cut) (rule : Rule) (stride x y : ℕ) (marks : Side → Bool) where
+  -- block k's place, its sides, and its neighbourhood in the plane as it stands
+  abbrev pub partPlace : ℕ → Place
+  partPlace k = placeOf (c .across) (placeAt stride y x) k
 
-  abbrev pub columnOf : ℕ → ℕ
-  columnOf k = x * c .across + scanX k
+  abbrev pub partSides : ℕ → Sides
+  partSides k = sidesOf (c .across) marks k
 
-  abbrev pub hasOf : ℕ → Side → Bool
-  hasOf k d = has (c .across) marks k d
-
-  -- block k's neighbourhood in the plane as it stands
-  abbrev pub nearOf : ℕ → List ℕ → Near
-  nearOf k plane = around (c .side) s (rowOf k) (columnOf k) plane (c .wide) (hasOf k B) (hasOf k A) (hasOf k D) (hasOf k C)
+  abbrev pub partNear : ℕ → List ℕ → Near
+  partNear k plane = nearBlock (c .side) (partPlace k) plane (partSides k) (c .wide)
 
   abbrev pub part : ℕ → List ℕ → List ℕ
-  part k plane = putBlock (c .side) s (rowOf k) (columnOf k) (rule k (hasOf k B) (hasOf k A) (hasOf k D) (nearOf k plane)) plane
+  part k plane = putBlock (c .side) (partPlace k) (rule k (partSides k) (partNear k plane)) plane
 
   -- the square: its blocks, one after the other
-  abbrev pub square : List ℕ → List ℕ
-  square plane = upTo part (blocks c) plane
+  abbrev pub allParts : List ℕ → List ℕ
+  allParts plane = upTo part (blocks c) plane

@@ -1,33 +1,46 @@
 // The samples beside a block, read from the plane as it stands. An absent side is not read, and leaves zeros.
 ghost use mathlib.Core.Path.{_≡_};
-ghost use mathlib.Core.Bool.{true, _&&_};
-ghost use Prim.Native.Nat.{_+_, _*_, _≤_, _<_};
+ghost use mathlib.Core.Bool.{_&&_};
+ghost use Prim.Native.Nat.{_*_, _≤_};
 ghost use lib.Dec.{ltb, leb};
 ghost use lib.ListN.{length, getD, replicate};
 ghost use Rattle.laws.specs.Patch.{patch};
 ghost use Rattle.macroblock.specs.Square.{aboveOf, leftOf, cornerOf};
-ghost use Rattle.macroblock.specs.inner.Blocks.{Fits};
+ghost use Rattle.macroblock.specs.inner.Blocks.{Stands, Blank};
+use super::cut::Place;
+use super::cut::Sides;
 
-// The samples above a block, as many as `out` takes; `out` comes filled with zeros.
-pub(crate) fn above_of(
+// All of them: above, as many as `top` takes, and left, in lists that come filled with zeros, and the corner.
+pub(crate) fn read_beside(
     plane: &[u8],
-    stride: usize,
     q: usize,
-    row: usize,
-    column: usize,
-    there: bool,
-    right: bool,
-    out: &mut [u8],
-)
-    requires { ⌜ Fits q stride row column (length (now plane)) ⌝ }
-    requires { ⌜ (q ≤ length (now out)) × (length (now out) ≤ 2 * q) × (now out ≡ replicate (length (now out)) 0) × (there ≡ true → 0 < row) × (right ≡ true → (0 < row) × (column * q + q + q ≤ stride)) ⌝ }
-    ensures { λ _. ⌜ now (out .exit) ≡ aboveOf q stride row column (now (plane .entry)) (length (now (out .entry))) there right ⌝ }
+    place: Place,
+    sides: Sides,
+    top: &mut [u8],
+    left: &mut [u8],
+) -> u8
+    requires { ⌜ Stands q place (length (now plane)) sides ⌝ }
+    requires { ⌜ Blank q (now top) (now left) ⌝ }
+    ensures { λ r. ⌜ now (top .exit) ≡ aboveOf q place (now (plane .entry)) sides (length (now (top .entry))) ⌝ }
+    ensures { λ r. ⌜ now (left .exit) ≡ leftOf q place (now (plane .entry)) sides ⌝ }
+    ensures { λ r. ⌜ r ≡ cornerOf q place (now (plane .entry)) sides ⌝ }
 {
-    if there {
-        let line = (row * q - 1) * stride + column * q;
+    above_of(plane, q, place, sides, top);
+    left_of(plane, q, place, sides, left);
+    corner_of(plane, q, place, sides)
+}
+
+// The samples above a block, as many as `out` takes.
+fn above_of(plane: &[u8], q: usize, place: Place, sides: Sides, out: &mut [u8])
+    requires { ⌜ Stands q place (length (now plane)) sides ⌝ }
+    requires { ⌜ (q ≤ length (now out)) × (length (now out) ≤ 2 * q) × (now out ≡ replicate (length (now out)) 0) ⌝ }
+    ensures { λ _. ⌜ now (out .exit) ≡ aboveOf q place (now (plane .entry)) sides (length (now (out .entry))) ⌝ }
+{
+    if sides.above {
+        let line = (place.row * q - 1) * place.stride + place.column * q;
         copy(&plane[line..], 0, q, out);
         let n = out.len();
-        if right {
+        if sides.above_right {
             copy(&plane[line..], q, n, out);
         } else {
             fill(plane[line + q - 1], q, n, out);
@@ -55,24 +68,16 @@ fn fill(v: u8, first: usize, end: usize, out: &mut [u8])
     }
 }
 
-// The samples left of a block; `out` comes filled with zeros.
-pub(crate) fn left_of(
-    plane: &[u8],
-    stride: usize,
-    q: usize,
-    row: usize,
-    column: usize,
-    there: bool,
-    out: &mut [u8],
-)
-    requires { ⌜ Fits q stride row column (length (now plane)) ⌝ }
-    requires { ⌜ (now out ≡ replicate q 0) × (there ≡ true → 0 < column) ⌝ }
-    ensures { λ _. ⌜ now (out .exit) ≡ leftOf q stride row column (now (plane .entry)) there ⌝ }
+// The samples left of a block.
+fn left_of(plane: &[u8], q: usize, place: Place, sides: Sides, out: &mut [u8])
+    requires { ⌜ Stands q place (length (now plane)) sides ⌝ }
+    requires { ⌜ now out ≡ replicate q 0 ⌝ }
+    ensures { λ _. ⌜ now (out .exit) ≡ leftOf q place (now (plane .entry)) sides ⌝ }
 {
-    if there {
+    if sides.left {
         let mut t = 0;
         while t < q {
-            let i = (row * q + t) * stride + (column * q - 1);
+            let i = (place.row * q + t) * place.stride + (place.column * q - 1);
             out[t] = plane[i];
             t += 1;
         }
@@ -80,20 +85,12 @@ pub(crate) fn left_of(
 }
 
 // The sample above and to the left of a block.
-pub(crate) fn corner_of(
-    plane: &[u8],
-    stride: usize,
-    q: usize,
-    row: usize,
-    column: usize,
-    there: bool,
-) -> u8
-    requires { ⌜ Fits q stride row column (length (now plane)) ⌝ }
-    requires { ⌜ (there ≡ true → (0 < row) × (0 < column)) ⌝ }
-    ensures { λ r. ⌜ r ≡ cornerOf q stride row column (now (plane .entry)) there ⌝ }
+fn corner_of(plane: &[u8], q: usize, place: Place, sides: Sides) -> u8
+    requires { ⌜ Stands q place (length (now plane)) sides ⌝ }
+    ensures { λ r. ⌜ r ≡ cornerOf q place (now (plane .entry)) sides ⌝ }
 {
-    if there {
-        let i = (row * q - 1) * stride + (column * q - 1);
+    if sides.corner {
+        let i = (place.row * q - 1) * place.stride + (place.column * q - 1);
         return plane[i];
     }
     0

@@ -1,13 +1,13 @@
 // Where the blocks of a macroblock stand (clause 6.4.3) and which of their sides are there (clauses 6.4.11 and 6.4.12).
 ghost use mathlib.Core.Path.{_≡_};
-ghost use mathlib.Core.Bool.{true, cond, _&&_};
+ghost use mathlib.Core.Bool.{cond, _&&_};
 ghost use Prim.Native.Nat.{_+_, _*_, _-_, _≤_, _<_};
 ghost use lib.Dec.{eqb, ltb, leb};
 ghost use Rattle.residual.specs.Nnz.{blkIdx};
 ghost use Rattle.maps.specs.Neighbours.{marksOf};
-ghost use Rattle.macroblock.specs.Cut.{scanX, scanY};
+ghost use Rattle.macroblock.specs.Cut.{scanX, scanY, sidesOf, squareSides, placeOf};
 ghost use Rattle.macroblock.specs.Kinds.{cutFor};
-ghost use Rattle.macroblock.specs.inner.Blocks.{Scan, Marked};
+ghost use Rattle.macroblock.specs.inner.Blocks.{BlockOf, Low};
 use maps::neighbours::Marks;
 
 // How many blocks of a kind's luma are in a row.
@@ -46,6 +46,28 @@ fn blk_idx(x: usize, y: usize) -> usize
     x % 2 + y % 2 * 2 + x / 2 * 4 + y / 2 * 8
 }
 
+// Where a block stands: its row and its column among the blocks of its side, in a plane with that stride.
+pub(crate) struct Place {
+    pub stride: usize,
+    pub row: usize,
+    pub column: usize,
+}
+
+// Where block k stands, of m across in a square that stands there.
+pub(crate) fn place_of(k: usize, m: usize, place: Place) -> Place
+    requires { ⌜ BlockOf m k ⌝ }
+    requires { ⌜ Low place ⌝ }
+    ensures { λ r. ⌜ r ≡ placeOf m place k ⌝ }
+{
+    let row = place.row * m + scan_y(k);
+    let column = place.column * m + scan_x(k);
+    Place {
+        stride: place.stride,
+        row,
+        column,
+    }
+}
+
 // Which sides of a block are there: above, left, the corner, and above and to the right.
 pub(crate) struct Sides {
     pub above: bool,
@@ -56,8 +78,8 @@ pub(crate) struct Sides {
 
 // The sides of block k of m across, from the marks of the neighbour macroblocks.
 pub(crate) fn sides_of(k: usize, m: usize, marks: Marks) -> Sides
-    requires { ⌜ Scan m × (m ≤ 4) × (k < m * m) ⌝ }
-    ensures { λ r. ⌜ Marked m (marksOf marks) k (r .above) (r .left) (r .corner) (r .«above_right») ⌝ }
+    requires { ⌜ BlockOf m k ⌝ }
+    ensures { λ r. ⌜ r ≡ sidesOf m (marksOf marks) k ⌝ }
 {
     let u = scan_x(k);
     let v = scan_y(k);
@@ -70,6 +92,18 @@ pub(crate) fn sides_of(k: usize, m: usize, marks: Marks) -> Sides
         left,
         corner,
         above_right,
+    }
+}
+
+// The sides of a square that is one block.
+pub(crate) fn square_sides(marks: Marks) -> Sides
+    ensures { λ r. ⌜ r ≡ squareSides (marksOf marks) ⌝ }
+{
+    Sides {
+        above: marks.b,
+        left: marks.a,
+        corner: marks.d,
+        above_right: marks.c,
     }
 }
 

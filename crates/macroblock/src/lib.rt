@@ -56,17 +56,7 @@ pub fn rebuild(
 {
     let x = x as usize;
     let y = y as usize;
-    if !has_rooms(
-        x,
-        y,
-        luma.len(),
-        luma_stride,
-        cb.len(),
-        cb_stride,
-        cr.len(),
-        cr_stride,
-        marks,
-    ) {
+    if !has_rooms(x, y, luma, luma_stride, cb, cb_stride, cr, cr_stride, marks) {
         return 2;
     }
     let answer = record_answer(marks, kind, modes, chroma_mode, numbers);

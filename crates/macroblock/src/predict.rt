@@ -6,39 +6,20 @@ ghost use Rattle.samples.specs.Intra16x16.{predL};
 ghost use Rattle.samples.specs.IntraChroma.{predC};
 ghost use Rattle.samples.specs.IntraNxN.{pred4x4L, pred8x8L};
 ghost use Rattle.samples.specs.Marks.{permittedNxN, permitted16x16, permittedChroma, modeAnswer};
-ghost use Rattle.macroblock.specs.Square.{around};
-ghost use Rattle.macroblock.specs.inner.Blocks.{Fits, Beside};
-use super::beside::above_of;
-use super::beside::corner_of;
-use super::beside::left_of;
+ghost use Rattle.macroblock.specs.Square.{nearBlock};
+ghost use Rattle.macroblock.specs.inner.Blocks.{Stands};
+use super::beside::read_beside;
+use super::cut::Place;
 use super::cut::Sides;
 
-pub(crate) fn predict_4x4(
-    plane: &[u8],
-    stride: usize,
-    row: usize,
-    column: usize,
-    sides: Sides,
-    mode: u8,
-) -> [u8; 16]
-    requires { ⌜ Fits 4 stride row column (length (now plane)) × Beside 4 stride row column (sides .above) (sides .left) (sides .corner) (sides .«above_right») ⌝ }
+pub(crate) fn predict_4x4(plane: &[u8], place: Place, sides: Sides, mode: u8) -> [u8; 16]
+    requires { ⌜ Stands 4 place (length (now plane)) sides ⌝ }
     requires { ⌜ modeAnswer 8 (permittedNxN (sides .above) (sides .left) (sides .corner)) mode ≡ 0 ⌝ }
-    ensures { λ r. ⌜ r ≡ blockOf 4 (pred4x4L mode (sides .above) (sides .left) (sides .corner) (around 4 stride row column (now (plane .entry)) 8 (sides .above) (sides .left) (sides .corner) (sides .«above_right»))) ⌝ }
+    ensures { λ r. ⌜ r ≡ blockOf 4 (pred4x4L mode (sides .above) (sides .left) (sides .corner) (nearBlock 4 place (now (plane .entry)) sides 8)) ⌝ }
 {
     let mut top = [0u8; 8];
-    above_of(
-        plane,
-        stride,
-        4,
-        row,
-        column,
-        sides.above,
-        sides.above_right,
-        &mut top,
-    );
     let mut left = [0u8; 4];
-    left_of(plane, stride, 4, row, column, sides.left, &mut left);
-    let corner = corner_of(plane, stride, 4, row, column, sides.corner);
+    let corner = read_beside(plane, 4, place, sides, &mut top, &mut left);
     let mut pred = [0u8; 16];
     samples::intra_nxn::intra4x4_pred_into(
         mode,
@@ -53,32 +34,14 @@ pub(crate) fn predict_4x4(
     pred
 }
 
-pub(crate) fn predict_8x8(
-    plane: &[u8],
-    stride: usize,
-    row: usize,
-    column: usize,
-    sides: Sides,
-    mode: u8,
-) -> [u8; 64]
-    requires { ⌜ Fits 8 stride row column (length (now plane)) × Beside 8 stride row column (sides .above) (sides .left) (sides .corner) (sides .«above_right») ⌝ }
+pub(crate) fn predict_8x8(plane: &[u8], place: Place, sides: Sides, mode: u8) -> [u8; 64]
+    requires { ⌜ Stands 8 place (length (now plane)) sides ⌝ }
     requires { ⌜ modeAnswer 8 (permittedNxN (sides .above) (sides .left) (sides .corner)) mode ≡ 0 ⌝ }
-    ensures { λ r. ⌜ r ≡ blockOf 8 (pred8x8L mode (sides .above) (sides .left) (sides .corner) (around 8 stride row column (now (plane .entry)) 16 (sides .above) (sides .left) (sides .corner) (sides .«above_right»))) ⌝ }
+    ensures { λ r. ⌜ r ≡ blockOf 8 (pred8x8L mode (sides .above) (sides .left) (sides .corner) (nearBlock 8 place (now (plane .entry)) sides 16)) ⌝ }
 {
     let mut top = [0u8; 16];
-    above_of(
-        plane,
-        stride,
-        8,
-        row,
-        column,
-        sides.above,
-        sides.above_right,
-        &mut top,
-    );
     let mut left = [0u8; 8];
-    left_of(plane, stride, 8, row, column, sides.left, &mut left);
-    let corner = corner_of(plane, stride, 8, row, column, sides.corner);
+    let corner = read_beside(plane, 8, place, sides, &mut top, &mut left);
     let mut pred = [0u8; 64];
     samples::intra_nxn::intra8x8_pred_into(
         mode,
@@ -93,32 +56,14 @@ pub(crate) fn predict_8x8(
     pred
 }
 
-pub(crate) fn predict_16x16(
-    plane: &[u8],
-    stride: usize,
-    row: usize,
-    column: usize,
-    sides: Sides,
-    mode: u8,
-) -> [u8; 256]
-    requires { ⌜ Fits 16 stride row column (length (now plane)) × Beside 16 stride row column (sides .above) (sides .left) (sides .corner) (sides .«above_right») ⌝ }
+pub(crate) fn predict_16x16(plane: &[u8], place: Place, sides: Sides, mode: u8) -> [u8; 256]
+    requires { ⌜ Stands 16 place (length (now plane)) sides ⌝ }
     requires { ⌜ modeAnswer 3 (permitted16x16 (sides .above) (sides .left) (sides .corner)) mode ≡ 0 ⌝ }
-    ensures { λ r. ⌜ r ≡ blockOf 16 (predL mode (sides .above) (sides .left) (around 16 stride row column (now (plane .entry)) 16 (sides .above) (sides .left) (sides .corner) (sides .«above_right»))) ⌝ }
+    ensures { λ r. ⌜ r ≡ blockOf 16 (predL mode (sides .above) (sides .left) (nearBlock 16 place (now (plane .entry)) sides 16)) ⌝ }
 {
     let mut top = [0u8; 16];
-    above_of(
-        plane,
-        stride,
-        16,
-        row,
-        column,
-        sides.above,
-        sides.above_right,
-        &mut top,
-    );
     let mut left = [0u8; 16];
-    left_of(plane, stride, 16, row, column, sides.left, &mut left);
-    let corner = corner_of(plane, stride, 16, row, column, sides.corner);
+    let corner = read_beside(plane, 16, place, sides, &mut top, &mut left);
     let mut pred = [0u8; 256];
     samples::intra_16x16::luma16x16_pred_into(
         mode,
@@ -133,32 +78,14 @@ pub(crate) fn predict_16x16(
     pred
 }
 
-pub(crate) fn predict_chroma(
-    plane: &[u8],
-    stride: usize,
-    row: usize,
-    column: usize,
-    sides: Sides,
-    mode: u8,
-) -> [u8; 64]
-    requires { ⌜ Fits 8 stride row column (length (now plane)) × Beside 8 stride row column (sides .above) (sides .left) (sides .corner) (sides .«above_right») ⌝ }
+pub(crate) fn predict_chroma(plane: &[u8], place: Place, sides: Sides, mode: u8) -> [u8; 64]
+    requires { ⌜ Stands 8 place (length (now plane)) sides ⌝ }
     requires { ⌜ modeAnswer 3 (permittedChroma (sides .above) (sides .left) (sides .corner)) mode ≡ 0 ⌝ }
-    ensures { λ r. ⌜ r ≡ blockOf 8 (predC mode (sides .above) (sides .left) (around 8 stride row column (now (plane .entry)) 8 (sides .above) (sides .left) (sides .corner) (sides .«above_right»))) ⌝ }
+    ensures { λ r. ⌜ r ≡ blockOf 8 (predC mode (sides .above) (sides .left) (nearBlock 8 place (now (plane .entry)) sides 8)) ⌝ }
 {
     let mut top = [0u8; 8];
-    above_of(
-        plane,
-        stride,
-        8,
-        row,
-        column,
-        sides.above,
-        sides.above_right,
-        &mut top,
-    );
     let mut left = [0u8; 8];
-    left_of(plane, stride, 8, row, column, sides.left, &mut left);
-    let corner = corner_of(plane, stride, 8, row, column, sides.corner);
+    let corner = read_beside(plane, 8, place, sides, &mut top, &mut left);
     let mut pred = [0u8; 64];
     samples::intra_chroma::chroma8x8_pred_into(
         mode,

@@ -1,32 +1,32 @@
 // Blocks put into a plane: prediction and residual, added and clipped (clause 8.5.14).
 ghost use mathlib.Core.Path.{_≡_};
-ghost use Prim.Native.Nat.{_+_, _*_, _≤_, _<_};
+ghost use Prim.Native.Nat.{_+_, _*_, _<_};
 ghost use lib.IntN.{pos, _+ℤ_};
 ghost use lib.ListN.{getD, length};
 ghost use Rattle.laws.specs.Range.{at};
 ghost use Rattle.residual.specs.Clip.{Clip1};
 ghost use Rattle.macroblock.specs.Square.{putBlock};
-ghost use Rattle.macroblock.specs.inner.Blocks.{Scan, Fits, inPiece, inPieces};
+ghost use Rattle.macroblock.specs.inner.Blocks.{BlockIn, PieceIn, PiecesIn, inPiece, inPieces};
+use super::cut::Place;
 use super::cut::scan_x;
 use super::cut::scan_y;
 
 // A 4x4 block from its prediction, which stands from `p_off` on with stride `p_stride`, and the residuals of block `b`.
 pub(crate) fn put_4x4(
     plane: &mut [u8],
-    stride: usize,
-    row: usize,
-    column: usize,
+    place: Place,
     pred: &[u8],
     p_off: usize,
     p_stride: usize,
     residuals: &[i32],
     b: usize,
 )
-    requires { ⌜ Fits 4 stride row column (length (now plane)) × («p_off» + 3 * «p_stride» + 4 ≤ length (now pred)) × («p_stride» ≤ 16) ⌝ }
+    requires { ⌜ BlockIn 4 place (length (now plane)) × PieceIn «p_off» «p_stride» (length (now pred)) ⌝ }
     requires { ⌜ (b < 24) × (length (now residuals) ≡ 384) ⌝ }
-    ensures { λ _. ⌜ now (plane .exit) ≡ putBlock 4 stride row column (λ x y. Clip1 (pos (getD (now (pred .entry)) («p_off» + y * «p_stride» + x) 0) +ℤ inPiece (now (residuals .entry)) b x y)) (now (plane .entry)) ⌝ }
+    ensures { λ _. ⌜ now (plane .exit) ≡ putBlock 4 place
+        (λ x y. Clip1 (pos (getD (now (pred .entry)) («p_off» + y * «p_stride» + x) 0) +ℤ inPiece (now (residuals .entry)) b x y)) (now (plane .entry)) ⌝ }
 {
-    let off = row * 4 * stride + column * 4;
+    let off = place.row * 4 * place.stride + place.column * 4;
     residual::reconstruct::add_residual_into(
         1,
         &residuals[16 * b..16 * b + 16],
@@ -35,59 +35,47 @@ pub(crate) fn put_4x4(
         p_stride,
         plane,
         off,
-        stride,
+        place.stride,
     );
 }
 
 // A block of m by m such pieces, from its prediction and the residuals of the blocks from `base` on.
 pub(crate) fn put_pieces(
     plane: &mut [u8],
-    stride: usize,
+    place: Place,
     m: usize,
-    row: usize,
-    column: usize,
     pred: &[u8],
     residuals: &[i32],
     base: usize,
 )
-    requires { ⌜ Fits (4 * m) stride row column (length (now plane)) × Scan m × (m ≤ 4) × (length (now pred) ≡ 4 * m * (4 * m)) ⌝ }
-    requires { ⌜ (base + m * m ≤ 24) × (length (now residuals) ≡ 384) ⌝ }
-    ensures { λ _. ⌜ now (plane .exit) ≡ putBlock (4 * m) stride row column (λ x y. Clip1 (pos (getD (now (pred .entry)) (y * (4 * m) + x) 0) +ℤ inPieces (now (residuals .entry)) base x y)) (now (plane .entry)) ⌝ }
+    requires { ⌜ BlockIn (4 * m) place (length (now plane)) × PiecesIn m base (length (now pred)) ⌝ }
+    requires { ⌜ length (now residuals) ≡ 384 ⌝ }
+    ensures { λ _. ⌜ now (plane .exit) ≡ putBlock (4 * m) place
+        (λ x y. Clip1 (pos (getD (now (pred .entry)) (y * (4 * m) + x) 0) +ℤ inPieces (now (residuals .entry)) base x y)) (now (plane .entry)) ⌝ }
 {
     let mut k = 0;
     while k < m * m {
         let u = scan_x(k);
         let v = scan_y(k);
         let off = v * 4 * (4 * m) + u * 4;
-        put_4x4(
-            plane,
-            stride,
-            row * m + v,
-            column * m + u,
-            pred,
-            off,
-            4 * m,
-            residuals,
-            base + k,
-        );
+        let piece = Place {
+            stride: place.stride,
+            row: place.row * m + v,
+            column: place.column * m + u,
+        };
+        put_4x4(plane, piece, pred, off, 4 * m, residuals, base + k);
         k += 1;
     }
 }
 
 // Luma block k of kind 1, from its prediction and its 64 residuals.
-pub(crate) fn put_8x8(
-    plane: &mut [u8],
-    stride: usize,
-    row: usize,
-    column: usize,
-    pred: &[u8],
-    residuals: &[i32],
-    k: usize,
-)
-    requires { ⌜ Fits 8 stride row column (length (now plane)) × (length (now pred) ≡ 64) × (k < 4) × (length (now residuals) ≡ 384) ⌝ }
-    ensures { λ _. ⌜ now (plane .exit) ≡ putBlock 8 stride row column (λ x y. Clip1 (pos (getD (now (pred .entry)) (y * 8 + x) 0) +ℤ at (now (residuals .entry)) (64 * k + (y * 8 + x)))) (now (plane .entry)) ⌝ }
+pub(crate) fn put_8x8(plane: &mut [u8], place: Place, pred: &[u8], residuals: &[i32], k: usize)
+    requires { ⌜ BlockIn 8 place (length (now plane)) × (length (now pred) ≡ 64) ⌝ }
+    requires { ⌜ (k < 4) × (length (now residuals) ≡ 384) ⌝ }
+    ensures { λ _. ⌜ now (plane .exit) ≡ putBlock 8 place
+        (λ x y. Clip1 (pos (getD (now (pred .entry)) (0 + y * 8 + x) 0) +ℤ at (now (residuals .entry)) (64 * k + (8 * y + x)))) (now (plane .entry)) ⌝ }
 {
-    let off = row * 8 * stride + column * 8;
+    let off = place.row * 8 * place.stride + place.column * 8;
     residual::reconstruct::add_residual_into(
         2,
         &residuals[64 * k..64 * k + 64],
@@ -96,6 +84,6 @@ pub(crate) fn put_8x8(
         8,
         plane,
         off,
-        stride,
+        place.stride,
     );
 }

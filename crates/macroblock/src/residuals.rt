@@ -12,18 +12,10 @@ pub(crate) fn residuals_of(kind: u8, numbers: &[i32], out: &mut [i32]) -> u32
     ensures { λ r. ⌜ r ≡ answer (8 unless allInRange (now (numbers .entry)) ∷ []) ⌝ }
     ensures { λ r. ⌜ (r ≡ 0 → Transformed (firstFor kind) (now (numbers .entry)) (now (out .exit))) ⌝ }
 {
-    copy(out, numbers);
-    transform(kind, out)
-}
-
-fn copy(out: &mut [i32], numbers: &[i32])
-    requires { ⌜ length (now out) ≡ length (now numbers) ⌝ }
-    ensures { λ _. ⌜ now (out .exit) ≡ now (numbers .entry) ⌝ }
-{
-    let n = numbers.len();
-    for k in 0..n {
+    for k in 0..384 {
         out[k] = numbers[k];
     }
+    transform(kind, out)
 }
 
 // Transforms the numbers where they stand. The luma residuals of kind 1 come transformed.

@@ -11,6 +11,7 @@ ghost use Rattle.laws.specs.Answer.{answer};
 ghost use Rattle.maps.specs.Neighbours.{marksOf};
 ghost use Rattle.macroblock.specs.Kinds.{recordOf};
 ghost use Rattle.macroblock.specs.Rules.{room, rooms, used, lastMode, permittedFor, known, permitted, earlyRules};
+use super::cut::Sides;
 use super::cut::across;
 use super::cut::sides_of;
 use maps::neighbours::Marks;
@@ -35,20 +36,21 @@ fn has_room(q: usize, len: usize, stride: usize, x: usize, y: usize, marks: Mark
 pub(crate) fn has_rooms(
     x: usize,
     y: usize,
-    luma_len: usize,
+    luma: &[u8],
     luma_stride: usize,
-    cb_len: usize,
+    cb: &[u8],
     cb_stride: usize,
-    cr_len: usize,
+    cr: &[u8],
     cr_stride: usize,
     marks: Marks,
 ) -> bool
     requires { ⌜ (x < 4294967296) × (y < 4294967296) ⌝ }
-    ensures { λ r. ⌜ r ≡ rooms x y «luma_len» «luma_stride» «cb_len» «cb_stride» «cr_len» «cr_stride» (marksOf marks) ⌝ }
+    ensures { λ r. ⌜ r ≡ rooms x y (length (now (luma .entry))) «luma_stride» (length (now (cb .entry))) «cb_stride»
+        (length (now (cr .entry))) «cr_stride» (marksOf marks) ⌝ }
 {
-    let luma = has_room(16, luma_len, luma_stride, x, y, marks);
-    let cb = has_room(8, cb_len, cb_stride, x, y, marks);
-    let cr = has_room(8, cr_len, cr_stride, x, y, marks);
+    let luma = has_room(16, luma.len(), luma_stride, x, y, marks);
+    let cb = has_room(8, cb.len(), cb_stride, x, y, marks);
+    let cr = has_room(8, cr.len(), cr_stride, x, y, marks);
     both(both(luma, cb), cr)
 }
 
@@ -148,8 +150,7 @@ fn is_permitted(marks: Marks, kind: u8, modes: &[u8], chroma_mode: u8) -> bool
     let m = across(kind);
     let mut k = 0;
     while k < n {
-        let s = sides_of(k, m, marks);
-        if !permits(kind, modes[k], s.above, s.left, s.corner) {
+        if !permits(kind, sides_of(k, m, marks), modes[k]) {
             return false;
         }
         k += 1;
@@ -157,11 +158,11 @@ fn is_permitted(marks: Marks, kind: u8, modes: &[u8], chroma_mode: u8) -> bool
     samples::marks::permits_chroma(chroma_mode, marks.b, marks.a, marks.d)
 }
 
-fn permits(kind: u8, mode: u8, above: bool, left: bool, corner: bool) -> bool
-    ensures { λ r. ⌜ r ≡ permittedFor kind above left corner mode ⌝ }
+fn permits(kind: u8, sides: Sides, mode: u8) -> bool
+    ensures { λ r. ⌜ r ≡ permittedFor kind sides mode ⌝ }
 {
     if kind < 2 {
-        return samples::marks::permits_nxn(mode, above, left, corner);
+        return samples::marks::permits_nxn(mode, sides.above, sides.left, sides.corner);
     }
-    samples::marks::permits_16x16(mode, above, left, corner)
+    samples::marks::permits_16x16(mode, sides.above, sides.left, sides.corner)
 }

@@ -1,20 +1,19 @@
 -- `macroblock::rebuild` meets its contract: without room it answers 2, else what the record's lists and modes and then its numbers answer, and only a 0 lets it
 -- write: then every square lies in its plane, no mode is refused, and the residuals are the definition's. Assumes nothing.
 use mathlib.Core.Path.{_≡_, refl, sym, _∙_}
-use mathlib.Core.Bool.{true, _&&_}
+use mathlib.Core.Bool.{true}
 use native.Mathlib.Omega.{arith}
 use borrow.Author.Tests.{not-true, not-false}
 use lib.ListN.{length}
 use Rattle.laws.proofs.Answers.{refused}
-use Rattle.laws.proofs.Tests.{and-left, and-right}
 use Rattle.maps.specs.Neighbours.{marksOf}
 use Rattle.macroblock.specs.declared.Record.{Record}
 use Rattle.macroblock.specs.Kinds.{recordOf}
-use Rattle.macroblock.specs.Rules.{room, rooms, numbersGood}
+use Rattle.macroblock.specs.Rules.{rooms, numbersGood}
 use Rattle.macroblock.specs.inner.Blocks.{firstFor}
-use Rattle.macroblock.proofs.Acceptable.{early-decide, numbers-decide, Acceptable, acceptable}
+use Rattle.macroblock.proofs.Early.{early-decide, numbers-decide, EarlyFine, early-fine}
 use Rattle.macroblock.proofs.ByKind.{first-few}
-use Rattle.macroblock.proofs.Rooms.{Roomy, roomy}
+use Rattle.macroblock.proofs.Rooms.{AllStand, all-stand}
 use borrow.Author.Needs.{needs}
 use Rattle.macroblock.proofs.rebuild.Statement.{statement}
 use Rattle.macroblock.proofs.rebuild.Tie as tie
@@ -25,7 +24,7 @@ given u = let a = u .args in recordOf (a .kind) (a .modes .now) (a .chroma-mode)
 
 -- the ways back: from where there is room, where the modes are accepted, where the numbers are, and from each square
 abbrev start : tie.Else1 → tie.Start
-start c = c .before .before .before .before .before .before
+start c = c .before .before .before .before .before .before .before .before .before
 
 abbrev roomed : tie.Else2 → tie.Else1
 roomed c = c .before .before
@@ -38,27 +37,15 @@ has : (c : tie.Else1) → let a = start c .args in
 has c = sym (c .before .has-rooms .ensures) ∙ not-false _ (c .if1 .left)
 
 -- what is known when nothing is refused but for the numbers
-record Ready (u : tie.Start) : Type 0 where
-  pub luma : let a = u .args in Roomy 16 (length (a .luma .now)) (a .luma-stride) (a .x) (a .y) (marksOf (a .marks))
-  pub cb : let a = u .args in Roomy 8 (length (a .cb .now)) (a .cb-stride) (a .x) (a .y) (marksOf (a .marks))
-  pub cr : let a = u .args in Roomy 8 (length (a .cr .now)) (a .cr-stride) (a .x) (a .y) (marksOf (a .marks))
-  pub good : Acceptable (marksOf (u .args .marks)) (given u)
+record Standing (u : tie.Start) : Type 0 where
+  pub squares : let a = u .args in
+      AllStand (a .x) (a .y) (length (a .luma .now)) (a .luma-stride) (length (a .cb .now)) (a .cb-stride) (length (a .cr .now)) (a .cr-stride) (marksOf (a .marks))
+  pub good : EarlyFine (marksOf (u .args .marks)) (given u)
 
-ready : (c : tie.Else2) → Ready (start (roomed c))
-ready c =
-    let e = roomed c in
-    let a = start e .args in
-    let marks = marksOf (a .marks) in
-    let t₁ = room 16 (length (a .luma .now)) (a .luma-stride) (a .x) (a .y) marks in
-    let t₂ = room 8 (length (a .cb .now)) (a .cb-stride) (a .x) (a .y) marks in
-    let t₃ = room 8 (length (a .cr .now)) (a .cr-stride) (a .x) (a .y) marks in
-    let f = and-left (t₁ && t₂) t₃ (has e) in
-    record {
-      luma = roomy 16 (length (a .luma .now)) (a .luma-stride) (a .x) (a .y) marks (omega arith) (and-left t₁ t₂ f);
-      cb = roomy 8 (length (a .cb .now)) (a .cb-stride) (a .x) (a .y) marks (omega arith) (and-right t₁ t₂ f);
-      cr = roomy 8 (length (a .cr .now)) (a .cr-stride) (a .x) (a .y) marks (omega arith) (and-right (t₁ && t₂) t₃ (has e));
-      good = acceptable marks (given (start e)) (sym (c .before .record-answer .ensures) ∙ omega arith);
-    }
+standing : (c : tie.Else2) → Standing (start (roomed c))
+standing c =
+    let u = start (roomed c) in
+    record { squares = all-stand _ _ _ _ _ _ _ _ (marksOf (u .args .marks)) (has (roomed c)); good = early-fine (marksOf (u .args .marks)) (given u) (sym (c .before .record-answer .ensures) ∙ omega arith) }
 
 -- the answer of the record's lists and modes is 0
 passed : (c : tie.Else2) → c .before .record-answer .result ≡ 0
@@ -75,7 +62,7 @@ returns-2 c =
     (r .record-answer .ensures ∙ sym (early-decide (marksOf (u .args .marks)) (given u) _ (has (r .before)) (λ h. z (r .record-answer .ensures ∙ h))), (sym (refused _ _ _ z), (sym (refused _ _ _ z), sym (refused _ _ _ z))))
 
 residuals-of-requires : tie.Need-residuals-of-requires
-residuals-of-requires c κs = (ready (c .before) .good .all, search needs)
+residuals-of-requires c κs = (standing (c .before) .good .all, search needs)
 
 returns-3 : tie.Need-returns-3
 unfolding numbersGood
@@ -87,17 +74,19 @@ returns-3 c =
     (r .residuals-of .ensures .0 ∙ sym (numbers-decide (marksOf (u .args .marks)) (given u) _ (has (roomed d)) (sym (d .before .record-answer .ensures) ∙ passed d)), (sym (refused _ _ _ z), (sym (refused _ _ _ z), sym (refused _ _ _ z))))
 
 luma-square-requires : tie.Need-luma-square-requires
-luma-square-requires c κs = let w = ready (fine (c .before .before)) in ((w .luma .fits, w .luma .beside), (w .good .luma, w .good .sixteen, search needs))
+luma-square-requires c κs =
+    let w = standing (fine (c .before .before)) in
+    record { stands = w .squares .luma; fine = w .good .luma; sixteen = w .good .sixteen; all = search needs }
 
 chroma-square-requires : tie.Need-chroma-square-requires
 chroma-square-requires c κs =
-    let w = ready (fine (c .before .before .before .before .before .before .before)) in
-    ((w .cb .fits, w .cb .beside), (w .good .chroma-fine, search needs, omega arith))
+    let w = standing (fine (c .before .before .before .before .before .before .before)) in
+    record { stands = w .squares .cb; fine = w .good .chroma; all = search needs; four = omega arith }
 
 chroma-square-requires-2 : tie.Need-chroma-square-requires-2
 chroma-square-requires-2 c κs =
-    let w = ready (fine (c .before .before .before .before .before .before .before .before .before .before .before .before)) in
-    ((w .cr .fits, w .cr .beside), (w .good .chroma-fine, search needs, omega arith))
+    let w = standing (fine (c .before .before .before .before .before .before .before .before .before .before .before .before)) in
+    record { stands = w .squares .cr; fine = w .good .chroma; all = search needs; four = omega arith }
 
 returns-4 : tie.Need-returns-4
 unfolding numbersGood
@@ -120,21 +109,6 @@ returns-4 c =
 pub rebuild-spec : {M : Type 1} → statement M
 rebuild-spec =
     tie.close
-    (tie.spec
-    (λ c κs. search needs)
-    returns
-    (λ c κs. search needs)
-    returns-2
-    (λ c. search needs)
-    residuals-of-requires
-    returns-3
-    (λ c. search needs)
-    luma-square-requires
-    (λ c. search needs)
-    chroma-square-requires
-    (λ c. search needs)
-    chroma-square-requires-2
-    (λ c. search needs)
-    (λ c. search needs)
-    (λ c. search needs)
-    returns-4)
+    (tie.spec (λ c κs. search needs) (λ c. search needs) (λ c. search needs) (λ c. search needs) returns (λ c κs. search needs) (λ c. search needs) (λ c. search needs) (λ c. search needs) returns-2
+    (λ c. search needs) residuals-of-requires (λ c. search needs) (λ c. search needs) (λ c. search needs) returns-3 (λ c. search needs) luma-square-requires (λ c. search needs) chroma-square-requires
+    (λ c. search needs) chroma-square-requires-2 (λ c. search needs) (λ c. search needs) (λ c. search needs) returns-4)

@@ -4,15 +4,17 @@ use mathlib.Core.Bool.{Bool, true}
 use mathlib.Core.List.{List}
 use Prim.Native.Nat.{ℕ, zero, suc, _+_, _*_, _-_, _/_, _%_, _<_, _≤_}
 use lib.IntN.{ℤ}
-use lib.ListN.{getD}
+use lib.ListN.{getD, length, replicate}
 use Rattle.laws.specs.Range.{at}
-use Rattle.samples.specs.Marks.{modeAnswer}
+use Rattle.samples.specs.Marks.{permittedChroma, modeAnswer}
 use Rattle.residual.specs.Nnz.{blkIdx}
 use Rattle.maps.specs.Neighbours.{Side}
-use Rattle.macroblock.specs.Cut.{scanX, scanY, has}
-use Rattle.maps.specs.Neighbours.Side.{A, B, C, D}
+use Rattle.macroblock.specs.Cut.{scanX, scanY, sidesOf, squareSides}
+use Rattle.maps.specs.Neighbours.Side.{A, B, D}
+use Rattle.macroblock.specs.declared.cut.Place.{Place}
+use Rattle.macroblock.specs.declared.cut.Sides.{Sides}
 use Rattle.macroblock.specs.Kinds.{residual4x4, cutFor}
-use Rattle.macroblock.specs.Rules.{lastMode, permittedFor}
+use Rattle.macroblock.specs.Rules.{used, lastMode, permittedFor}
 
 -- for m blocks across, places and numbers answer one another
 pub record Scan (m : ℕ) : Type 0 where
@@ -24,32 +26,71 @@ pub record Scan (m : ℕ) : Type 0 where
   pub of-y : (x y : ℕ) → x < m → y < m → scanY (blkIdx x y) ≡ y
   pub of-lt : (x y : ℕ) → x < m → y < m → blkIdx x y < m * m
 
--- the marks of block k are the definition's
-pub record Marked (m : ℕ) (marks : Side → Bool) (k : ℕ) (above left corner right : Bool) : Type 0 where
-  pub above-is : above ≡ has m marks k B
-  pub left-is : left ≡ has m marks k A
-  pub corner-is : corner ≡ has m marks k D
-  pub right-is : right ≡ has m marks k C
+-- block k of m across
+pub record BlockOf (m k : ℕ) : Type 0 where
+  pub scan : Scan m
+  pub few : m ≤ 4
+  pub one : k < m * m
 
--- the block of side q in row Y and column Z of blocks lies in a plane of n samples with stride s
-pub record Fits (q s Y Z n : ℕ) : Type 0 where
-  pub some : 0 < q
-  pub short : s ≤ 4096
-  pub wide : Z * q + q ≤ s
-  pub within : (Y * q + (q - 1)) * s + (Z * q + q) ≤ n
+-- a place so near that sixteen times its row and its column are numbers of 64 bits
+pub record Low (p : Place) : Type 0 where
+  pub rows : p .row * 16 + 16 ≤ 18446744073709551616
+  pub columns : p .column * 16 + 16 ≤ 18446744073709551616
+
+-- the block at p lies in a plane of n samples
+pub record BlockIn (side : ℕ) (p : Place) (n : ℕ) : Type 0 where
+  pub some : 0 < side
+  pub short : p .stride ≤ 4096
+  pub wide : p .column * side + side ≤ p .stride
+  pub within : (p .row * side + (side - 1)) * p .stride + (p .column * side + side) ≤ n
 
 -- a side of it that is there has a row above it, a column before it, or a block to its right
-pub record Beside (q s Y Z : ℕ) (above left corner right : Bool) : Type 0 where
-  pub on-above : above ≡ true → 0 < Y
-  pub on-left : left ≡ true → 0 < Z
-  pub on-corner : corner ≡ true → (0 < Y) × (0 < Z)
-  pub on-right : right ≡ true → (0 < Y) × (Z * q + q + q ≤ s)
+pub record SidesIn (side : ℕ) (p : Place) (sides : Sides) : Type 0 where
+  pub on-above : sides .above ≡ true → 0 < p .row
+  pub on-left : sides .left ≡ true → 0 < p .column
+  pub on-corner : sides .corner ≡ true → (0 < p .row) × (0 < p .column)
+  pub on-above-right : sides .«above_right» ≡ true → (0 < p .row) × (p .column * side + side + side ≤ p .stride)
+
+pub record Stands (side : ℕ) (p : Place) (n : ℕ) (sides : Sides) : Type 0 where
+  pub block : BlockIn side p n
+  pub beside : SidesIn side p sides
+
+-- room for the samples above a block and for those left of it, filled with zeros
+pub record Blank (side : ℕ) (top left : List ℕ) : Type 0 where
+  pub least : side ≤ length top
+  pub most : length top ≤ 2 * side
+  pub top-zeros : top ≡ replicate (length top) 0
+  pub left-zeros : left ≡ replicate side 0
 
 -- luma block k's mode, as a predictor answers it: 0 where it is known and permitted where it stands
 abbrev pub modeFine : ℕ → List ℕ → (Side → Bool) → ℕ → ℕ
-modeFine kind modes marks k =
-    let m = cutFor kind .across in
-    modeAnswer (lastMode kind) (permittedFor kind (has m marks k B) (has m marks k A) (has m marks k D)) (getD modes k 0)
+modeFine kind modes marks k = modeAnswer (lastMode kind) (permittedFor kind (sidesOf (cutFor kind .across) marks k)) (getD modes k 0)
+
+-- a luma square stands in its plane, its modes are fine, and its lists have their lengths
+pub record LumaReady (kind : ℕ) (p : Place) (n : ℕ) (marks : Side → Bool) (modes : List ℕ) (residuals : List ℤ) : Type 0 where
+  pub stands : Stands 16 p n (squareSides marks)
+  pub fine : (k : ℕ) → k < used kind → modeFine kind modes marks k ≡ 0
+  pub sixteen : length modes ≡ 16
+  pub all : length residuals ≡ 384
+
+-- the same of a chroma square, whose residuals are those of the blocks from `base` on
+pub record ChromaReady (mode base : ℕ) (p : Place) (n : ℕ) (marks : Side → Bool) (residuals : List ℤ) : Type 0 where
+  pub stands : Stands 8 p n (squareSides marks)
+  pub fine : modeAnswer 3 (permittedChroma (marks B) (marks A) (marks D)) mode ≡ 0
+  pub all : length residuals ≡ 384
+  pub four : base + 4 ≤ 24
+
+-- a 4x4 piece of a prediction that has n samples, from `off` on with rows `apart` apart
+pub record PieceIn (off apart n : ℕ) : Type 0 where
+  pub inside : off + 3 * apart + 4 ≤ n
+  pub narrow : apart ≤ 16
+
+-- all m by m pieces of a prediction that has n samples, with the residuals of the blocks from `base` on
+pub record PiecesIn (m base n : ℕ) : Type 0 where
+  pub scan : Scan m
+  pub few : m ≤ 4
+  pub square : n ≡ 4 * m * (4 * m)
+  pub blocks : base + m * m ≤ 24
 
 -- ---- residuals where a macroblock's numbers stood
 -- those of the coefficient blocks from `first` on are transformed, and the numbers before them are as they were

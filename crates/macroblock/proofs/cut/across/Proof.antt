@@ -10,9 +10,4 @@ returns-3 : tie.Need-returns-3
 returns-3 c = other-kind (λ n. 1 ≡ cutFor n .across) (λ j. refl) _ (c .before .if1 .left) (c .if2 .left)
 
 pub across-spec : {M : Type 1} → statement M
-across-spec =
-    tie.close
-    (tie.spec
-    (λ c. search needs)
-    (λ c. search needs)
-    returns-3)
+across-spec = tie.close (tie.spec (λ c. search needs) (λ c. search needs) returns-3)

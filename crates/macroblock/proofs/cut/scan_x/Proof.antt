@@ -10,9 +10,4 @@ unfolding scanX
 returns c = omega arith
 
 pub scan-x-spec : {M : Type 1} → statement M
-scan-x-spec =
-    tie.close
-    (tie.spec
-    (λ c. search needs)
-    (λ c. search needs)
-    returns)
+scan-x-spec = tie.close (tie.spec (λ c. search needs) (λ c. search needs) returns)

@@ -10,9 +10,4 @@ unfolding scanY
 returns c = omega arith
 
 pub scan-y-spec : {M : Type 1} → statement M
-scan-y-spec =
-    tie.close
-    (tie.spec
-    (λ c. search needs)
-    (λ c. search needs)
-    returns)
+scan-y-spec = tie.close (tie.spec (λ c. search needs) (λ c. search needs) returns)

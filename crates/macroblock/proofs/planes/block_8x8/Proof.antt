@@ -1,104 +1,63 @@
 -- `macroblock::planes::block_8x8` meets its contract: the block and its sides lie in the plane, the mode is not refused, and the sums are the definition's.
 -- Assumes nothing.
-use mathlib.Core.Path.{ap, _∙_}
-use Prim.Native.Nat.{_+_, _*_, _≤_}
+use mathlib.Core.Path.{_≡_, sym, ap, subst, _∙_}
+use Prim.Native.Nat.{_+_, _*_}
 use native.Mathlib.Omega.{arith}
 use lib.ListN.{getD, length}
-use Rattle.samples.specs.IntraNxN.{pred8x8L}
-use Rattle.samples.specs.Marks.{permittedNxN}
+use Rattle.laws.specs.Range.{at}
+use Rattle.samples.specs.Marks.{permittedNxN, modeAnswer}
 use Rattle.maps.specs.Neighbours.{marksOf}
 use Rattle.macroblock.specs.Cut.{eight}
-use Rattle.laws.specs.Range.{at}
-use Rattle.macroblock.specs.Kinds.{lumaRule}
-use Rattle.macroblock.specs.Square.{around}
-use Rattle.macroblock.proofs.Drawn.{drawn, fine-at, part-is, AtBlock, at-block, top-in}
+use Rattle.macroblock.specs.Kinds.{predFor, residualL}
+use Rattle.macroblock.specs.inner.Blocks.{Stands}
+use Rattle.macroblock.proofs.Drawn.{drawn}
+use Rattle.macroblock.proofs.Fitting.{low}
 use Rattle.macroblock.proofs.Scan.{scan-2}
+use Rattle.macroblock.proofs.Sides.{stands-at}
 use borrow.Author.Needs.{needs}
 use Rattle.macroblock.proofs.planes.block_8x8.Statement.{statement}
 use Rattle.macroblock.proofs.planes.block_8x8.Tie as tie
 
-top : (u : tie.Start) → let a = u .args in a .y * 16 + 15 ≤ length (a .plane .now)
-top u = let a = u .args in top-in 16 (a .stride) (a .x) (a .y) (length (a .plane .now)) (u .pre .0 .0)
-
-block : (c : tie.After-sides-of) → let u = c .before .before .before .before .before in let a = u .args in let m = c .sides-of .result in
-    AtBlock 8 2 (a .stride) (a .x) (a .y) (length (a .plane .now)) (c .before .scan-x .result) (c .before .before .scan-y .result) (m .above) (m .left) (m .corner) (m .«above_right»)
+block : (c : tie.After-sides-of) → Stands 8 (c .before .place-of .result) (length (c .before .before .before .before .args .plane .now)) (c .sides-of .result)
 block c =
-    let u = c .before .before .before .before .before in
-    let a = u .args in
-    at-block 8 2 (a .stride) (a .x) (a .y) (length (a .plane .now)) (a .k) _ _ (marksOf (a .marks)) scan-2 (omega arith) (u .pre .0 .2) (u .pre .0 .0) (u .pre .0 .1)
-    (c .sides-of .ensures) (c .before .scan-x .ensures) (c .before .before .scan-y .ensures)
-
-mul-row : tie.Need-mul-row
-mul-row c = let h = top (c .before .before) in omega arith
-
-scan-y-requires : tie.Need-scan-y-requires
-scan-y-requires c κs = let h = c .before .before .pre .0 .2 in omega arith
-
-add-row : tie.Need-add-row
-add-row c = let u = c .before .before .before in let h = top u in let v = scan-2 .y-lt (u .args .k) (u .pre .0 .2) in omega (arith, c .scan-y .ensures)
-
-scan-x-requires : tie.Need-scan-x-requires
-scan-x-requires c κs = let h = c .before .before .before .pre .0 .2 in omega arith
-
-add-column : tie.Need-add-column
-add-column c =
     let u = c .before .before .before .before in
-    let f = u .pre .0 .0 in
-    let v = scan-2 .x-lt (u .args .k) (u .pre .0 .2) in
-    omega (arith, f .wide, f .short, c .scan-x .ensures)
+    stands-at 8 2 (u .args .k) (marksOf (u .args .marks)) scan-2 (omega arith) (u .pre .1) (u .pre .0 .stands) (c .before .place-of .ensures) (c .sides-of .ensures)
+
+place-of-requires : tie.Need-place-of-requires
+place-of-requires c κs = let u = c .before .before in (record { scan = scan-2; few = omega arith; one = u .pre .1 }, low (u .pre .0 .stands .block) (omega arith))
 
 sides-of-requires : tie.Need-sides-of-requires
-sides-of-requires c κs = (scan-2, omega arith, c .before .before .before .before .pre .0 .2)
+sides-of-requires c κs = record { scan = scan-2; few = omega arith; one = c .before .before .before .pre .1 }
 
 shared-slice-read-predict-8x8 : tie.Need-shared-slice-read-predict-8x8
-shared-slice-read-predict-8x8 c = let u = c .before .before .before .before .before .before .before in omega (arith, u .pre .0 .2, u .pre .1 .1)
+shared-slice-read-predict-8x8 c = let u = c .before .before .before .before .before .before in omega (arith, u .pre .1, u .pre .0 .sixteen)
 
 predict-8x8-requires : tie.Need-predict-8x8-requires
 predict-8x8-requires c κs =
     let e = c .before .before in
-    let u = e .before .before .before .before .before in
+    let u = e .before .before .before .before in
     let a = u .args in
-    let w = block e in
-    ((w .fits, w .beside), fine-at (e .sides-of .ensures) 8 permittedNxN (getD (a .modes .now) (a .k) 0) (u .pre .1 .0))
+    (block e, subst (λ s. modeAnswer 8 (permittedNxN (s .above) (s .left) (s .corner)) (getD (a .modes .now) (a .k) 0) ≡ 0) (sym (e .sides-of .ensures)) (u .pre .0 .fine (a .k) (u .pre .1)))
 
 put-8x8-requires : tie.Need-put-8x8-requires
 put-8x8-requires c κs =
     let e = c .before .before .before .before .before in
-    let u = e .before .before .before .before .before in
-    (block e .fits, search needs, u .pre .0 .2, u .pre .1 .2)
+    let u = e .before .before .before .before in
+    ((block e .block, search needs), (u .pre .1, u .pre .0 .all))
 
 returns : tie.Need-returns
 returns c numbers T =
     let p = c .before .before in
     let d = p .before .before .before in
     let e = d .before .before .before in
-    let u = e .before .before .before .before .before in
+    let u = e .before .before .before .before in
     let a = u .args in
-    let m = e .sides-of .result in
-    let Y = a .y * 2 + e .before .before .scan-y .result in
-    let Z = a .x * 2 + e .before .scan-x .result in
-    part-is eight (lumaRule 1 (a .modes .now) numbers) (a .stride) (a .x) (a .y) (a .k) Y Z (marksOf (a .marks)) (a .plane .now) _ (e .sides-of .ensures)
-    (ap (λ n. a .y * 2 + n) (e .before .before .scan-y .ensures)) (ap (λ n. a .x * 2 + n) (e .before .scan-x .ensures))
-    (p .put-8x8 .ensures
-    ∙ drawn 8 (a .stride) Y Z
-    (pred8x8L (getD (a .modes .now) (a .k) 0) (m .above) (m .left) (m .corner) (around 8 (a .stride) Y Z (a .plane .now) 16 (m .above) (m .left) (m .corner) (m .«above_right»))) (λ x y. at (a .residuals .now) (64 * a .k + (y * 8 + x))) (λ x y. at numbers (64 * a .k + (y * 8 + x)))
-    (λ x y. y * 8 + x) (d .predict-8x8 .result) (a .plane .now) (omega arith) (d .predict-8x8 .ensures) (λ x y. omega arith)
-    (λ x y hx hy. T .before (64 * a .k + (y * 8 + x)) (omega (arith, u .pre .0 .2))))
+    drawn eight (λ k. predFor 1 (getD (a .modes .now) k 0)) (residualL 1 numbers) (a .place) (marksOf (a .marks)) (a .k) (omega arith) (e .before .place-of .ensures) (e .sides-of .ensures)
+    (λ x y. 0 + y * 8 + x) (λ x y. at (a .residuals .now) (64 * a .k + (8 * y + x))) (a .plane .now) (d .predict-8x8 .ensures) (λ x y. omega arith)
+    (λ x y hx hy. T .before (64 * a .k + (8 * y + x)) (omega (arith, u .pre .1)) ∙ ap (at numbers) (let e : 64 * a .k + (8 * y + x) ≡ 64 * a .k + (y * 8 + x) = omega arith in e)) (p .put-8x8 .ensures)
 
 pub block-8x8-spec : {M : Type 1} → statement M
 block-8x8-spec =
     tie.close
-    (tie.spec
-    mul-row
-    scan-y-requires
-    add-row
-    (λ c. search needs)
-    scan-x-requires
-    add-column
-    sides-of-requires
-    shared-slice-read-predict-8x8
-    predict-8x8-requires
-    (λ c. search needs)
-    put-8x8-requires
-    (λ c. search needs)
+    (tie.spec place-of-requires sides-of-requires shared-slice-read-predict-8x8 predict-8x8-requires (λ c. search needs) put-8x8-requires (λ c. search needs)
     returns)

@@ -1,15 +1,17 @@
 -- `macroblock::planes::chroma_square` meets its contract: the mode is not refused, and the sums are the definition's. Assumes nothing.
-use mathlib.Core.Path.{refl, _∙_}
+use mathlib.Core.Path.{_≡_, refl, sym, subst, _∙_}
 use Prim.Native.Nat.{_+_, _*_}
 use native.Mathlib.Omega.{arith}
+use lib.ListN.{length}
 use Rattle.laws.specs.Steps.{upTo}
 use Rattle.samples.specs.IntraChroma.{predC}
+use Rattle.samples.specs.Marks.{permittedChroma, modeAnswer}
 use Rattle.maps.specs.Neighbours.{marksOf}
 use Rattle.macroblock.specs.Cut.{whole}
-use Rattle.macroblock.specs.Kinds.{chromaRule, residualIn}
-use Rattle.macroblock.specs.Square.{around}
-use Rattle.macroblock.specs.inner.Blocks.{inPieces}
-use Rattle.macroblock.proofs.Drawn.{drawn, part-is, whole-marked, whole-row, whole-column}
+use Rattle.macroblock.specs.Kinds.{residualIn}
+use Rattle.macroblock.specs.Square.{placeAt}
+use Rattle.macroblock.specs.inner.Blocks.{Stands, inPieces}
+use Rattle.macroblock.proofs.Drawn.{drawn, whole-sides, whole-place}
 use Rattle.macroblock.proofs.Scan.{scan-2}
 use Rattle.macroblock.proofs.Sums.{pieces-transformed}
 use borrow.Author.Needs.{needs}
@@ -17,32 +19,31 @@ use Rattle.macroblock.proofs.planes.chroma_square.Statement.{statement}
 use Rattle.macroblock.proofs.planes.chroma_square.Tie as tie
 
 predict-chroma-requires : tie.Need-predict-chroma-requires
-predict-chroma-requires c κs = let u = c .before .before in ((u .pre .0 .0, u .pre .0 .1), u .pre .1 .0)
+predict-chroma-requires c κs =
+    let s = c .before in
+    let u = s .before .before in
+    let a = u .args in
+    let e = sym (s .square-sides .ensures) in (
+      subst (Stands 8 (placeAt (a .stride) (a .y) (a .x)) (length (a .plane .now))) e (u .pre .stands),
+      subst (λ s. modeAnswer 3 (permittedChroma (s .above) (s .left) (s .corner)) (a .mode) ≡ 0) e (u .pre .fine),
+    )
 
 put-pieces-requires : tie.Need-put-pieces-requires
 put-pieces-requires c κs =
-    let u = c .before .before .before .before .before in
-    ((u .pre .0 .0, scan-2, omega arith, search needs), (omega (arith, u .pre .1 .2), u .pre .1 .1))
+    let u = c .before .before .before .before .before .before in
+    ((u .pre .stands .block, record { scan = scan-2; few = omega arith; square = search needs; blocks = omega (arith, u .pre .four) }), u .pre .all)
 
 returns : tie.Need-returns
 unfolding upTo
 returns c first numbers low T =
     let p = c .before .before in
     let d = p .before .before .before in
-    let u = d .before .before .before in
+    let s = d .before .before in
+    let u = s .before .before in
     let a = u .args in
-    part-is (whole 8) (chromaRule (a .mode) numbers (a .base)) (a .stride) (a .x) (a .y) 0 (a .y) (a .x) (marksOf (a .marks)) (a .plane .now) _
-    (whole-marked (a .marks)) (whole-row (a .y)) (whole-column (a .x))
-    (p .put-pieces .ensures
-    ∙ drawn 8 (a .stride) (a .y) (a .x) (predC (a .mode) (a .marks .b) (a .marks .a) (around 8 (a .stride) (a .y) (a .x) (a .plane .now) 8 (a .marks .b) (a .marks .a) (a .marks .d) (a .marks .c)))
-    (inPieces (a .residuals .now) (a .base)) (residualIn numbers (a .base)) (λ x y. y * 8 + x) (d .predict-chroma .result) (a .plane .now) (omega arith) (d .predict-chroma .ensures) (λ x y. refl) (pieces-transformed 2 (a .base) scan-2 low (omega (arith, u .pre .1 .2)) T))
+    let at = placeAt (a .stride) (a .y) (a .x) in
+    drawn (whole 8) (λ k s. predC (a .mode) (s .above) (s .left)) (λ k. residualIn numbers (a .base)) at (marksOf (a .marks)) 0 (omega arith) (whole-place at) (s .square-sides .ensures ∙ whole-sides (marksOf (a .marks)))
+    (λ x y. y * 8 + x) (inPieces (a .residuals .now) (a .base)) (a .plane .now) (d .predict-chroma .ensures) (λ x y. refl) (pieces-transformed 2 (a .base) scan-2 low (omega (arith, u .pre .four)) T) (p .put-pieces .ensures)
 
 pub chroma-square-spec : {M : Type 1} → statement M
-chroma-square-spec =
-    tie.close
-    (tie.spec
-    predict-chroma-requires
-    (λ c. search needs)
-    put-pieces-requires
-    (λ c. search needs)
-    returns)
+chroma-square-spec = tie.close (tie.spec (λ c κs. search needs) predict-chroma-requires (λ c. search needs) put-pieces-requires (λ c. search needs) returns)

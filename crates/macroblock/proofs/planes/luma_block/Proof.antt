@@ -4,58 +4,38 @@ use mathlib.Core.List.{List}
 use Prim.Native.Nat.{ℕ, _<_}
 use native.Mathlib.Omega.{arith}
 use lib.IntN.{ℤ}
+use lib.ListN.{length}
 use Rattle.maps.specs.Neighbours.{marksOf}
 use Rattle.macroblock.specs.Kinds.{cutFor, lumaRule}
 use Rattle.macroblock.specs.Rules.{used}
 use Rattle.macroblock.specs.Square.{part}
-use Rattle.macroblock.specs.inner.Blocks.{modeFine, Transformed, firstFor}
+use Rattle.macroblock.specs.inner.Blocks.{LumaReady, Transformed, firstFor}
 use Rattle.macroblock.proofs.ByKind.{other-kind}
 use borrow.Author.Needs.{needs}
 use Rattle.macroblock.proofs.planes.luma_block.Statement.{statement}
 use Rattle.macroblock.proofs.planes.luma_block.Tie as tie
 
+-- what block k of a kind asks for, what its numbers must be, and what it leaves
+abbrev asks : tie.Start → ℕ → Type 0
+asks u n = let a = u .args in LumaReady n (a .place) (length (a .plane .now)) (marksOf (a .marks)) (a .modes .now) (a .residuals .now) × (a .k < used n)
+
+abbrev ready : tie.Start → List ℤ → ℕ → Type 0
+ready u numbers n = Transformed (firstFor n) numbers (u .args .residuals .now)
+
+rebuilt : tie.Start → List ℤ → ℕ → ℕ → List ℕ
+rebuilt u numbers n k = let a = u .args in part (cutFor n) (lumaRule n (a .modes .now) numbers) (a .place .stride) (a .place .column) (a .place .row) (marksOf (a .marks)) k (a .plane .now)
+
 block-4x4-requires : tie.Need-block-4x4-requires
-block-4x4-requires c κs =
-    let u = c .before .before .before .before in
-    let a = u .args in
-    let e : a .kind ≡ 0 = omega arith in
-    let p = u .pre in
-    ((p .0 .0, p .0 .1, subst (λ n. a .k < used n) e (p .0 .2)), (subst (λ n. modeFine n (a .modes .now) (marksOf (a .marks)) (a .k) ≡ 0) e (p .1 .0), p .1 .1, p .1 .2))
+block-4x4-requires c κs = let u = c .before .before .before .before in let e : u .args .kind ≡ 0 = omega arith in subst (asks u) e (u .pre)
 
 block-8x8-requires : tie.Need-block-8x8-requires
-block-8x8-requires c κs =
-    let u = c .before .before .before .before .before in
-    let a = u .args in
-    let e : a .kind ≡ 1 = omega arith in
-    let p = u .pre in
-    ((p .0 .0, p .0 .1, subst (λ n. a .k < used n) e (p .0 .2)), (subst (λ n. modeFine n (a .modes .now) (marksOf (a .marks)) (a .k) ≡ 0) e (p .1 .0), p .1 .1, p .1 .2))
-
--- the one block of kind 2
-first : (k : ℕ) → k < 1 → k ≡ 0
-first k h = omega arith
+block-8x8-requires c κs = let u = c .before .before .before .before .before in let e : u .args .kind ≡ 1 = omega arith in subst (asks u) e (u .pre)
 
 block-16x16-requires : tie.Need-block-16x16-requires
 block-16x16-requires c κs =
     let d = c .before in
     let u = d .before .before .before .before in
-    let a = u .args in
-    let p = u .pre in
-    let fine = modeFine 2 (a .modes .now) (marksOf (a .marks)) in (
-      (p .0 .0, p .0 .1),
-      (
-        other-kind (λ n. a .k < used n → modeFine n (a .modes .now) (marksOf (a .marks)) (a .k) ≡ 0 → fine 0 ≡ 0) (λ j l e. subst (λ k. fine k ≡ 0) (first (a .k) l) e)
-            (a .kind) (d .before .if1 .left) (d .if2 .left) (p .0 .2) (p .1 .0),
-        p .1 .1,
-        p .1 .2,
-      ),
-    )
-
--- block k of a kind, rebuilt, and what its numbers must be
-rebuilt : (u : tie.Start) → List ℤ → ℕ → ℕ → List ℕ
-rebuilt u numbers n k = let a = u .args in part (cutFor n) (lumaRule n (a .modes .now) numbers) (a .stride) (a .x) (a .y) (marksOf (a .marks)) k (a .plane .now)
-
-abbrev ready : (u : tie.Start) → List ℤ → ℕ → Type 0
-ready u numbers n = Transformed (firstFor n) numbers (u .args .residuals .now)
+    other-kind (λ n. asks u n → asks u 2) (λ j p. (record { stands = p .0 .stands; fine = p .0 .fine; sixteen = p .0 .sixteen; all = p .0 .all }, p .1)) (u .args .kind) (d .before .if1 .left) (d .if2 .left) (u .pre) .0
 
 returns : tie.Need-returns
 unfolding rebuilt
@@ -71,6 +51,10 @@ returns-2 c numbers T =
     let e : u .args .kind ≡ 1 = omega arith in
     c .before .before .block-8x8 .ensures numbers (subst (ready u numbers) e T) ∙ ap (λ n. rebuilt u numbers n (u .args .k)) (sym e)
 
+-- the one block of kind 2
+first : (k : ℕ) → k < 1 → 0 ≡ k
+first k h = omega arith
+
 returns-3 : tie.Need-returns-3
 unfolding rebuilt
 returns-3 c numbers T =
@@ -81,18 +65,9 @@ returns-3 c numbers T =
     let n₀ = d .before .if1 .left in
     let n₁ = d .if2 .left in
     b .block-16x16 .ensures numbers (other-kind (λ n. ready u numbers n → ready u numbers 2) (λ j t. t) (u .args .kind) n₀ n₁ T)
-    ∙ other-kind (λ n. k < used n → rebuilt u numbers 2 0 ≡ rebuilt u numbers n k) (λ j l. ap (rebuilt u numbers 2) (sym (first k l))) (u .args .kind) n₀ n₁ (u .pre .0 .2)
+    ∙ other-kind (λ n. k < used n → rebuilt u numbers 2 0 ≡ rebuilt u numbers n k) (λ j l. ap (rebuilt u numbers 2) (first k l)) (u .args .kind) n₀ n₁ (u .pre .1)
 
 pub luma-block-spec : {M : Type 1} → statement M
 luma-block-spec =
     tie.close
-    (tie.spec
-    block-4x4-requires
-    block-8x8-requires
-    block-16x16-requires
-    (λ c. search needs)
-    returns
-    (λ c. search needs)
-    returns-2
-    (λ c. search needs)
-    returns-3)
+    (tie.spec block-4x4-requires block-8x8-requires block-16x16-requires (λ c. search needs) returns (λ c. search needs) returns-2 (λ c. search needs) returns-3)

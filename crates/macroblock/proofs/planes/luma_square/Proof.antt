@@ -1,7 +1,7 @@
 -- `macroblock::planes::luma_square` meets its contract. The invariant: the first k blocks are rebuilt. Assumes nothing.
 use mathlib.Core.Path.{_≡_, refl, sym, ap, _∙_, subst}
 use mathlib.Core.List.{List}
-use Prim.Native.Nat.{_-_, _<_, _≤_}
+use Prim.Native.Nat.{_-_, _≤_}
 use native.Mathlib.Omega.{arith}
 use lib.IntN.{ℤ}
 use lib.ListN.{length}
@@ -10,21 +10,20 @@ use Rattle.laws.proofs.Steps.{steps-none, steps-more}
 use Rattle.maps.specs.Neighbours.{marksOf}
 use Rattle.macroblock.specs.Cut.{blocks}
 use Rattle.macroblock.specs.Kinds.{cutFor, lumaRule}
-use Rattle.macroblock.specs.Rules.{used}
-use Rattle.macroblock.specs.Square.{part}
-use Rattle.macroblock.specs.inner.Blocks.{Fits, Transformed, firstFor}
+use Rattle.macroblock.specs.Square.{placeAt, part}
+use Rattle.macroblock.specs.inner.Blocks.{LumaReady, Transformed, firstFor}
 use Rattle.macroblock.proofs.ByKind.{used-is}
 use borrow.Author.Needs.{needs}
 use Rattle.macroblock.proofs.planes.luma_square.Statement.{statement}
 use Rattle.macroblock.proofs.planes.luma_square.Tie as tie
 
 abbrev Inv-loop : tie.InvT-loop
-Inv-loop plane₀ stride x y marks kind modes residuals n k₀ plane k =
+Inv-loop plane₀ stride x y marks kind modes residuals place n k₀ plane k =
     (k ≤ n) × (length plane ≡ length plane₀)
     × ((numbers : List ℤ) → Transformed (firstFor kind) numbers residuals → plane ≡ upTo (part (cutFor kind) (lumaRule kind modes numbers) stride x y (marksOf marks)) k plane₀)
 
 abbrev μ-loop : tie.MeasureT-loop
-μ-loop plane₀ stride x y marks kind modes residuals n k₀ plane k = n - k
+μ-loop plane₀ stride x y marks kind modes residuals place n k₀ plane k = n - k
 
 loop-holds : tie.Need-loop-holds Inv-loop μ-loop
 loop-holds c = (omega arith, refl, λ numbers T. steps-none _ _)
@@ -35,8 +34,7 @@ luma-block-requires c κs =
     let n = b .before in
     let u = n .before .before .before in
     let a = u .args in
-    let l : b .loop .k < used (a .kind) = omega (arith, n .used-modes .ensures) in
-    ((subst (Fits 16 (a .stride) (a .y) (a .x)) (sym (b .loop .inv .1)) (u .pre .0 .0), u .pre .0 .1, l), (u .pre .1 .0 (b .loop .k) l, u .pre .1 .1, u .pre .1 .2))
+    (subst (λ l. LumaReady (a .kind) (placeAt (a .stride) (a .y) (a .x)) l (marksOf (a .marks)) (a .modes .now) (a .residuals .now)) (sym (b .loop .inv .1)) (u .pre), omega (arith, n .used-modes .ensures))
 
 loop-again : tie.Need-loop-again Inv-loop μ-loop
 loop-again c =
@@ -63,14 +61,4 @@ returns c numbers T =
 pub luma-square-spec : {M : Type 1} → statement M
 luma-square-spec =
     tie.close
-    (tie.spec
-    Inv-loop
-    μ-loop
-    (λ c κs. search needs)
-    loop-holds
-    luma-block-requires
-    (λ c. search needs)
-    (λ c. search needs)
-    loop-again
-    same-length
-    returns)
+    (tie.spec Inv-loop μ-loop (λ c κs. search needs) loop-holds luma-block-requires (λ c. search needs) (λ c. search needs) loop-again same-length returns)

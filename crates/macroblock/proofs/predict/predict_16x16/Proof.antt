@@ -13,28 +13,15 @@ use Rattle.macroblock.proofs.predict.predict_16x16.Tie as tie
 returns : tie.Need-returns
 returns c =
     let p = c .before in
-    let r = p .before .before .before .before in
-    let l = r .before .before in
-    let t = l .before .before .before in
-    let u = t .before .before .before in
+    let b = p .before .before .before .before .before .before in
+    let u = b .before .before .before .before in
     let a = u .args in
-    let m = a .sides in
-    predicted 16 (a .stride) (a .row) (a .column) 16 256 (a .plane .now) (m .above) (m .left) (m .«above_right»)
-    (λ top left corner. blockOf 16 (predL (a .mode) (m .above) (m .left) (near top left corner))) (replicate 256 0)
-    3 (permitted16x16 (m .above) (m .left) (m .corner)) (a .mode) (p .luma16x16-pred-into .ensures .0) refl (u .pre .1) (p .luma16x16-pred-into .ensures .1) (t .above-of .ensures) (l .left-of .ensures)
-    (r .corner-of .ensures)
+    let s = a .sides in
+    predicted 16 16 256 (a .place) (a .plane .now) s (λ top left corner. blockOf 16 (predL (a .mode) (s .above) (s .left) (near top left corner))) (replicate 256 0)
+    3 (permitted16x16 (s .above) (s .left) (s .corner)) (a .mode) (p .luma16x16-pred-into .ensures .0) refl (u .pre .1) (p .luma16x16-pred-into .ensures .1) (b .read-beside .ensures .0) (b .read-beside .ensures .1 .0) (b .read-beside .ensures .1 .1)
 
 pub predict-16x16-spec : {M : Type 1} → statement M
 predict-16x16-spec =
     tie.close
-    (tie.spec
-    (λ c. search needs)
-    (λ c κs. search needs)
-    (λ c. search needs)
-    (λ c κs. search needs)
-    (λ c κs. search needs)
-    (λ c. search needs)
-    (λ c. search needs)
-    (λ c. search needs)
-    (λ c κs. search needs)
+    (tie.spec (λ c. search needs) (λ c. search needs) (λ c κs. search needs) (λ c. search needs) (λ c. search needs) (λ c. search needs) (λ c κs. search needs)
     returns)

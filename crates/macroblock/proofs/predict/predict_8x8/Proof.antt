@@ -13,28 +13,15 @@ use Rattle.macroblock.proofs.predict.predict_8x8.Tie as tie
 returns : tie.Need-returns
 returns c =
     let p = c .before in
-    let r = p .before .before .before .before in
-    let l = r .before .before in
-    let t = l .before .before .before in
-    let u = t .before .before .before in
+    let b = p .before .before .before .before .before .before in
+    let u = b .before .before .before .before in
     let a = u .args in
-    let m = a .sides in
-    predicted 8 (a .stride) (a .row) (a .column) 16 64 (a .plane .now) (m .above) (m .left) (m .«above_right»)
-    (λ top left corner. blockOf 8 (pred8x8L (a .mode) (m .above) (m .left) (m .corner) (near top left corner))) (replicate 64 0)
-    8 (permittedNxN (m .above) (m .left) (m .corner)) (a .mode) (p .intra8x8-pred-into .ensures .0) refl (u .pre .1) (p .intra8x8-pred-into .ensures .1) (t .above-of .ensures) (l .left-of .ensures)
-    (r .corner-of .ensures)
+    let s = a .sides in
+    predicted 8 16 64 (a .place) (a .plane .now) s (λ top left corner. blockOf 8 (pred8x8L (a .mode) (s .above) (s .left) (s .corner) (near top left corner))) (replicate 64 0)
+    8 (permittedNxN (s .above) (s .left) (s .corner)) (a .mode) (p .intra8x8-pred-into .ensures .0) refl (u .pre .1) (p .intra8x8-pred-into .ensures .1) (b .read-beside .ensures .0) (b .read-beside .ensures .1 .0) (b .read-beside .ensures .1 .1)
 
 pub predict-8x8-spec : {M : Type 1} → statement M
 predict-8x8-spec =
     tie.close
-    (tie.spec
-    (λ c. search needs)
-    (λ c κs. search needs)
-    (λ c. search needs)
-    (λ c κs. search needs)
-    (λ c κs. search needs)
-    (λ c. search needs)
-    (λ c. search needs)
-    (λ c. search needs)
-    (λ c κs. search needs)
+    (tie.spec (λ c. search needs) (λ c. search needs) (λ c κs. search needs) (λ c. search needs) (λ c. search needs) (λ c. search needs) (λ c κs. search needs)
     returns)

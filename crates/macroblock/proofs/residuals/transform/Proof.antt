@@ -52,18 +52,5 @@ returns-3 c =
 pub transform-spec : {M : Type 1} → statement M
 transform-spec =
     tie.close
-    (tie.spec
-    (λ c. search needs)
-    slice-aggregate-all-in-range
-    (λ c κs. search needs)
-    (λ c. search needs)
-    returns
-    (λ c. search needs)
-    (λ c. search needs)
-    (λ c. search needs)
-    (λ c κs. search needs)
-    (λ c. search needs)
-    returns-2
-    (λ c κs. search needs)
-    (λ c. search needs)
-    returns-3)
+    (tie.spec (λ c. search needs) slice-aggregate-all-in-range (λ c κs. search needs) (λ c. search needs) returns (λ c. search needs) (λ c. search needs)
+    (λ c. search needs) (λ c κs. search needs) (λ c. search needs) returns-2 (λ c κs. search needs) (λ c. search needs) returns-3)

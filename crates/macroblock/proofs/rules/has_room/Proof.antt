@@ -1,8 +1,8 @@
 -- `macroblock::rules::has_room` meets its contract: its tests are the definition's, and no product leaves 64 bits. Assumes nothing.
 use Prim.Native.Nat.{ℕ, _+_, _*_, _-_, _<_, _≤_}
+use native.Mathlib.Nat.{mul-le-mul}
 use native.Mathlib.Omega.{arith}
 use borrow.Author.Tests.{lt-leb, le-leb}
-use Rattle.laws.proofs.Digits.{mul-most}
 use Rattle.macroblock.specs.Rules.{room}
 use borrow.Author.Needs.{needs}
 use Rattle.macroblock.proofs.rules.has_room.Statement.{statement}
@@ -10,10 +10,10 @@ use Rattle.macroblock.proofs.rules.has_room.Tie as tie
 
 -- a column or row of squares times their side, and a row of samples times the stride
 small : (n q : ℕ) → n < 4294967296 → q ≤ 16 → n * q ≤ 68719476736
-small n q h g = mul-most n q 4294967296 16 (omega arith) g
+small n q h g = mul-le-mul {n₁ = n} {n₂ = 4294967296} {m₂ = 16} (omega arith) g
 
 tall : (n q s : ℕ) → n < 4294967296 → q ≤ 16 → s ≤ 4096 → (n * q + (q - 1)) * s ≤ 68719476752 * 4096
-tall n q s h g l = mul-most (n * q + (q - 1)) s 68719476752 4096 (omega (arith, small n q h g)) l
+tall n q s h g l = mul-le-mul {n₁ = n * q + (q - 1)} {n₂ = 68719476752} {m₂ = 4096} (omega (arith, small n q h g)) l
 
 record Here (q s x y : ℕ) : Type 0 where
   pub columns : x * q ≤ 68719476736
@@ -37,30 +37,6 @@ here c =
 returns : tie.Need-returns
 unfolding room
 returns c = rw (lt-leb (c .before .args .stride) 4096 (omega arith))
-
-mul-end : tie.Need-mul-end
-mul-end c = let h = here c in omega arith
-
-add-end : tie.Need-add-end
-add-end c = let h = here c in omega arith
-
-mul-both : tie.Need-mul-both
-mul-both c = let h = here c in omega arith
-
-sub-both : tie.Need-sub-both
-sub-both c = let h = here c in omega arith
-
-add-both : tie.Need-add-both
-add-both c = let h = here c in omega arith
-
-mul-both-2 : tie.Need-mul-both-2
-mul-both-2 c = let h = here c in omega arith
-
-add-both-2 : tie.Need-add-both-2
-add-both-2 c = let h = here c in omega arith
-
-add-both-3 : tie.Need-add-both-3
-add-both-3 c = let h = here (c .before .before .before .before .before) in omega arith
 
 returns-2 : tie.Need-returns-2
 unfolding room
@@ -95,25 +71,8 @@ returns-2 c =
 pub has-room-spec : {M : Type 1} → statement M
 has-room-spec =
     tie.close
-    (tie.spec
-    returns
-    mul-end
-    add-end
-    mul-both
-    sub-both
-    add-both
-    mul-both-2
-    add-both-2
-    (λ c κs. search needs)
-    (λ c κs. search needs)
-    (λ c κs. search needs)
-    (λ c κs. search needs)
-    (λ c κs. search needs)
-    add-both-3
-    (λ c κs. search needs)
-    (λ c κs. search needs)
-    (λ c κs. search needs)
-    (λ c κs. search needs)
-    (λ c κs. search needs)
-    (λ c κs. search needs)
-    returns-2)
+    (tie.spec returns (λ c. let h = here c in omega arith) (λ c. let h = here c in omega arith) (λ c. let h = here c in omega arith)
+    (λ c. let h = here c in omega arith) (λ c. let h = here c in omega arith) (λ c. let h = here c in omega arith) (λ c. let h = here c in omega arith)
+    (λ c κs. search needs) (λ c κs. search needs) (λ c κs. search needs) (λ c κs. search needs) (λ c κs. search needs)
+    (λ c. let h = here (c .before .before .before .before .before) in omega arith)
+    (λ c κs. search needs) (λ c κs. search needs) (λ c κs. search needs) (λ c κs. search needs) (λ c κs. search needs) (λ c κs. search needs) returns-2)

@@ -12,12 +12,4 @@ returns c =
     rw (c .both2 .ensures, c₄ .both .ensures, c₃ .has-room3 .ensures, c₂ .has-room2 .ensures, c₁ .has-room .ensures)
 
 pub has-rooms-spec : {M : Type 1} → statement M
-has-rooms-spec =
-    tie.close
-    (tie.spec
-    (λ c κs. search needs)
-    (λ c κs. search needs)
-    (λ c κs. search needs)
-    (λ c κs. search needs)
-    (λ c κs. search needs)
-    returns)
+has-rooms-spec = tie.close (tie.spec (λ c κs. search needs) (λ c κs. search needs) (λ c κs. search needs) (λ c κs. search needs) (λ c κs. search needs) returns)

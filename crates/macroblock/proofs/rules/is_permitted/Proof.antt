@@ -28,7 +28,7 @@ sides-of-requires c κs =
     let b = c .before in
     let n = b .before .before in
     let kind = n .before .before .args .kind in
-    rw (b .before .across .ensures) (scan-for kind, across-few kind, omega (arith, n .used-modes .ensures, used-is kind))
+    rw (b .before .across .ensures) (record { scan = scan-for kind; few = across-few kind; one = omega (arith, n .used-modes .ensures, used-is kind) })
 
 shared-slice-read-permits : tie.Need-shared-slice-read-permits Inv-loop μ-loop
 shared-slice-read-permits c =
@@ -42,8 +42,7 @@ tested : (c : tie.After-permits Inv-loop μ-loop) → let b = c .before .before 
 tested c =
     let s = c .before .before in
     let e = s .before .before .before .across .ensures in
-    let m = s .sides-of .ensures in
-    c .permits .ensures ∙ rw (m .above-is, m .left-is, m .corner-is, e)
+    c .permits .ensures ∙ rw (s .sides-of .ensures, e)
 
 returns : tie.Need-returns Inv-loop μ-loop
 unfolding permitted
@@ -72,18 +71,5 @@ returns-2 c numbers =
 pub is-permitted-spec : {M : Type 1} → statement M
 is-permitted-spec =
     tie.close
-    (tie.spec
-    Inv-loop
-    μ-loop
-    (λ c κs. search needs)
-    (λ c κs. search needs)
-    loop-holds
-    sides-of-requires
-    shared-slice-read-permits
-    (λ c κs. search needs)
-    returns
-    (λ c. search needs)
-    (λ c. search needs)
-    loop-again
-    (λ c κs. search needs)
-    returns-2)
+    (tie.spec Inv-loop μ-loop (λ c κs. search needs) (λ c κs. search needs) loop-holds sides-of-requires shared-slice-read-permits (λ c κs. search needs)
+    returns (λ c. search needs) (λ c. search needs) loop-again (λ c κs. search needs) returns-2)

@@ -13,8 +13,4 @@ returns-2 : tie.Need-returns-2
 returns-2 c = other-kind (λ n. 3 ≡ lastMode n) (λ j. refl) (c .before .args .kind) (λ e. omega arith) (λ e. omega arith)
 
 pub last-mode-spec : {M : Type 1} → statement M
-last-mode-spec =
-    tie.close
-    (tie.spec
-    returns
-    returns-2)
+last-mode-spec = tie.close (tie.spec returns returns-2)

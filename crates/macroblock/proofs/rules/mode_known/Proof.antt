@@ -21,10 +21,4 @@ returns-2 c =
     rw (le-ltb (a .k) (used (a .kind)) l)
 
 pub mode-known-spec : {M : Type 1} → statement M
-mode-known-spec =
-    tie.close
-    (tie.spec
-    (λ c κs. search needs)
-    (λ c κs. search needs)
-    returns
-    returns-2)
+mode-known-spec = tie.close (tie.spec (λ c κs. search needs) (λ c κs. search needs) returns returns-2)

@@ -45,13 +45,4 @@ returns-4 c =
     rw (listed (e .before .before), sym (e .before .is-known .ensures n) ∙ not-false _ (e .if2 .left), sym (c .before .is-permitted .ensures n) ∙ not-false _ (c .if3 .left))
 
 pub record-answer-spec : {M : Type 1} → statement M
-record-answer-spec =
-    tie.close
-    (tie.spec
-    (λ c κs. search needs)
-    returns
-    is-known-requires
-    returns-2
-    is-permitted-requires
-    returns-3
-    returns-4)
+record-answer-spec = tie.close (tie.spec (λ c κs. search needs) returns is-known-requires returns-2 is-permitted-requires returns-3 returns-4)

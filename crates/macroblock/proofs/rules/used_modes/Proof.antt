@@ -10,9 +10,4 @@ returns-3 : tie.Need-returns-3
 returns-3 c = other-kind (λ n. 1 ≡ used n) (λ j. refl) _ (c .before .if1 .left) (c .if2 .left)
 
 pub used-modes-spec : {M : Type 1} → statement M
-used-modes-spec =
-    tie.close
-    (tie.spec
-    (λ c. search needs)
-    (λ c. search needs)
-    returns-3)
+used-modes-spec = tie.close (tie.spec (λ c. search needs) (λ c. search needs) returns-3)

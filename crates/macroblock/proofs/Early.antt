@@ -1,5 +1,5 @@
--- A record that is not refused: its lists have their lengths, and each luma mode and the chroma mode are ones that the predictors answer 0 for. The rules
--- before the numbers decide alone where they refuse, and otherwise the numbers do. Assumes nothing.
+-- A record that is not refused before its numbers are read: its lists have their lengths, and each luma mode and the chroma mode are ones that the predictors answer 0 for. These
+-- rules decide alone where they refuse, and otherwise the numbers do. Assumes nothing.
 use mathlib.Core.Path.{_≡_, sym, ap, _∙_}
 use mathlib.Core.Bool.{Bool, true, cond, _&&_}
 use mathlib.Core.List.{[], _∷_}
@@ -21,11 +21,11 @@ use Rattle.macroblock.specs.inner.Blocks.{modeFine}
 use Rattle.macroblock.proofs.ByKind.{used-few}
 
 module _ (marks : Side → Bool) (r : Record) where
-  pub record Acceptable : Type 0 where
+  pub record EarlyFine : Type 0 where
     pub sixteen : length (r .modes) ≡ 16
     pub all : length (r .numbers) ≡ 384
     pub luma : (k : ℕ) → k < used (r .kind) → modeFine (r .kind) (r .modes) marks k ≡ 0
-    pub chroma-fine : modeAnswer 3 (permittedChroma (marks B) (marks A) (marks D)) (r .«chroma_mode») ≡ 0
+    pub chroma : modeAnswer 3 (permittedChroma (marks B) (marks A) (marks D)) (r .«chroma_mode») ≡ 0
 
   -- a used mode that is known is at most the last
   used-known : (k : ℕ) → k < used (r .kind) → allBelow 16 (modeKnown (r .kind) (r .modes)) ≡ true → leb (getD (r .modes) k 0) (lastMode (r .kind)) ≡ true
@@ -33,9 +33,9 @@ module _ (marks : Side → Bool) (r : Record) where
       ap (λ t. cond t (leb (getD (r .modes) k 0) (lastMode (r .kind))) (eqb (getD (r .modes) k 0) 0)) (sym (lt-ltb k (used (r .kind)) h))
       ∙ all-at 16 (modeKnown (r .kind) (r .modes)) e k (omega (arith, used-few (r .kind)))
 
-  pub acceptable : answer (earlyRules marks r) ≡ 0 → Acceptable
+  pub early-fine : answer (earlyRules marks r) ≡ 0 → EarlyFine
   unfolding listsGood known permitted
-  acceptable e =
+  early-fine e =
       let o = passes 1 (listsGood r) (knownRule r ∷ permittedRule marks r ∷ []) e in
       let p = passes 5 (known r) (permittedRule marks r ∷ []) (o .1) in
       let q = passes 6 (permitted marks r) [] (p .1) in
@@ -46,7 +46,7 @@ module _ (marks : Side → Bool) (r : Record) where
         sixteen = eqb-true (length (r .modes)) 16 (and-left (eqb (length (r .modes)) 16) (eqb (length (r .numbers)) 384) (o .0));
         all = eqb-true (length (r .numbers)) 384 (and-right (eqb (length (r .modes)) 16) (eqb (length (r .numbers)) 384) (o .0));
         luma = λ j h. rw (used-known j h (and-right t₁ t₂ (and-left (t₁ && t₂) t₃ (p .0))), all-at (used (r .kind)) (permittedAt (r .kind) (r .modes) marks) (and-left t₄ t₅ (q .0)) j h);
-        chroma-fine = rw (and-right (t₁ && t₂) t₃ (p .0), and-right t₄ t₅ (q .0));
+        chroma = rw (and-right (t₁ && t₂) t₃ (p .0), and-right t₄ t₅ (q .0));
       }
 
   -- with room, the record decides: first its lists, its kind and its modes, and where they are accepted its numbers

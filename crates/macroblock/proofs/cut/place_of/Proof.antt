@@ -1,0 +1,39 @@
+-- `macroblock::cut::place_of` meets its contract: the place is near, so no product leaves 64 bits. Assumes nothing.
+use Prim.Native.Nat.{ℕ, _*_, _≤_}
+use native.Mathlib.Nat.{mul-le-mul-left}
+use native.Mathlib.Omega.{arith}
+use Rattle.macroblock.proofs.Scan.{few-blocks}
+use Rattle.macroblock.proofs.cut.place_of.Statement.{statement}
+use Rattle.macroblock.proofs.cut.place_of.Tie as tie
+
+record Here (m row column : ℕ) : Type 0 where
+  pub few : m ≤ 4
+  pub rows : row * m ≤ row * 4
+  pub columns : column * m ≤ column * 4
+
+here : (u : tie.Start) → Here (u .args .m) (u .args .place .row) (u .args .place .column)
+here u = let l = u .pre .0 .few in record { few = l; rows = mul-le-mul-left (u .args .place .row) l; columns = mul-le-mul-left (u .args .place .column) l }
+
+mul-row : tie.Need-mul-row
+mul-row c = let h = here (c .before) in omega (arith, c .before .pre .1 .rows)
+
+scan-y-requires : tie.Need-scan-y-requires
+scan-y-requires c κs = let u = c .before in few-blocks (u .args .k) (u .args .m) (u .pre .0 .one) (u .pre .0 .few)
+
+add-row : tie.Need-add-row
+add-row c = let u = c .before .before in let h = here u in omega (arith, u .pre .1 .rows, c .scan-y .ensures, u .pre .0 .scan .y-lt (u .args .k) (u .pre .0 .one))
+
+mul-column : tie.Need-mul-column
+mul-column c = let u = c .before .before .before in let h = here u in omega (arith, u .pre .1 .columns)
+
+scan-x-requires : tie.Need-scan-x-requires
+scan-x-requires c κs = let u = c .before .before .before in few-blocks (u .args .k) (u .args .m) (u .pre .0 .one) (u .pre .0 .few)
+
+add-column : tie.Need-add-column
+add-column c = let u = c .before .before .before .before in let h = here u in omega (arith, u .pre .1 .columns, c .scan-x .ensures, u .pre .0 .scan .x-lt (u .args .k) (u .pre .0 .one))
+
+returns : tie.Need-returns
+returns c = rw (c .scan-x .ensures, c .before .before .scan-y .ensures)
+
+pub place-of-spec : {M : Type 1} → statement M
+place-of-spec = tie.close (tie.spec mul-row scan-y-requires add-row mul-column scan-x-requires add-column returns)
