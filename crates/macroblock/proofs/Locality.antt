@@ -15,7 +15,7 @@ use Rattle.laws.proofs.Patches.{length-patch, patch-other, patch-here}
 use Rattle.laws.proofs.Steps.{steps-length}
 use Rattle.laws.proofs.Tables.{table-same}
 use Rattle.laws.proofs.Tests.{T-true}
-use Rattle.order.specs.Order.{Agree}
+use Rattle.order.specs.Order.{Alike}
 use Rattle.order.specs.Parts.{Parts}
 use Rattle.order.proofs.Parts.{parts-writes, parts-reads}
 use Rattle.samples.specs.Near.{near}
@@ -100,7 +100,7 @@ module _ (c : Cut) (rule : Rule) (n s x y : ℕ) (marks : Side → Bool) (S : Sc
   another D t e f = let h = stands .beside .on-corner (T-true (marks D) t) in omega (arith, h .0)
 
   -- over two planes that agree outside and on the earlier blocks, a block has the same neighbourhood
-  module _ (k : ℕ) (hk : k < m * m) (p p′ : List ℕ) (e : Agree sampleIn Outside p p′) (f : (j : ℕ) → j < k → Agree sampleIn (InPart q m (placeAt s y x) S j) p p′) where
+  module _ (k : ℕ) (hk : k < m * m) (p p′ : List ℕ) (e : Alike sampleIn Outside p p′) (f : (j : ℕ) → j < k → Alike sampleIn (InPart q m (placeAt s y x) S j) p p′) where
     abbrev P : Place
     P = partPlace c rule s x y marks k
 

@@ -5,7 +5,7 @@ use Prim.Native.Nat.{ℕ, _<_}
 use native.Mathlib.Nat.{lt-trans}
 use lib.ListN.{replicate, length-replicate}
 use Rattle.laws.specs.Steps.{upTo}
-use Rattle.order.specs.Order.{Agree, Laws, Done, AllDone, build, marked, Permitted, raster}
+use Rattle.order.specs.Order.{Alike, Laws, Done, AllDone, build, marked, Permitted, raster}
 use Rattle.order.proofs.Settled.{Settled, settled-start, settled-run, ok-run, untouched, agree-on}
 use Rattle.order.proofs.Raster.{raster-permitted, raster-done, build-raster}
 
@@ -19,7 +19,7 @@ module _ {M I X : Type 0} {at : M → I → X} {ok : M → Type 0} {n : ℕ} {R 
 
   -- also half way, and whatever the two memories held before
   pub done-agrees : (o : List ℕ) (p q : M) → ok p → ok q → Permitted n N o (replicate n 0)
-      → (a : ℕ) → a < n → Done (marked o (replicate n 0)) a → Agree at (R a) (build step o p) (upTo step n q)
+      → (a : ℕ) → a < n → Done (marked o (replicate n 0)) a → Alike at (R a) (build step o p) (upTo step n q)
   done-agrees o p q kp kq t a ha dn i r =
       agree-on L (build step o p) (build step (raster n) q) (marked o (replicate n 0)) (marked (raster n) (replicate n 0))
       (ok-run L o p (replicate n 0) kp t) (ok-run L (raster n) q (replicate n 0) kq in-turn) (settled-after o p kp t) (settled-after (raster n) q kq in-turn)

@@ -6,7 +6,7 @@ use native.Mathlib.Omega.{arith}
 use lib.ListN.{length, set, replicate, length-set, length-replicate}
 use Rattle.laws.specs.Answer.{written}
 use Rattle.laws.specs.Steps.{upTo}
-use Rattle.order.specs.Order.{Agree, Laws, Done, AllDone, Ready, First, build, marked, Permitted, undoneFrom, raster, ones}
+use Rattle.order.specs.Order.{Alike, Laws, Done, AllDone, Ready, First, build, marked, Permitted, undoneFrom, raster, ones}
 use Rattle.order.specs.Driver.{Driver, View, Started, Fair, after, play, answers, Carries, Spares, Offers}
 use Rattle.order.proofs.Settled.{untouched, ok-run}
 use Rattle.order.proofs.Count.{ones-set, ones-le, ones-none, full-done}
@@ -21,19 +21,19 @@ play-append D (c ∷ cs) ds s = play-append D cs ds (after D c s)
 
 module _ {S C M : Type 0} {D : Driver S C} {U : View S M} {n : ℕ} {addr : C → ℕ} {waits : C → ℕ → Type 0} (F : Fair D U n addr waits) where
   -- the state after a call, by its answer
-  is : (c : C) (s : S) {r : ℕ} → D .answer c s ≡ r → after D c s ≡ written r s (D .taken c s)
-  is c s e = ap (λ r. written r s (D .taken c s)) e
+  pub after-is : (c : C) (s : S) {r : ℕ} → D .answer c s ≡ r → after D c s ≡ written r s (D .taken c s)
+  after-is c s e = ap (λ r. written r s (D .taken c s)) e
 
-  marks-at : (c : C) (s : S) → D .answer c s ≡ 0 → U .done (after D c s) ≡ set (U .done s) (addr c) 1
-  marks-at c s e = ap (U .done) (is c s e) ∙ F .marks c s
+  pub done-after : (c : C) (s : S) → D .answer c s ≡ 0 → U .done (after D c s) ≡ set (U .done s) (addr c) 1
+  done-after c s e = ap (U .done) (after-is c s e) ∙ F .marks c s
 
   -- the map keeps its length
-  long-after : (c : C) (s : S) → length (U .done s) ≡ n → length (U .done (after D c s)) ≡ n
+  pub long-after : (c : C) (s : S) → length (U .done s) ≡ n → length (U .done (after D c s)) ≡ n
   long-after c s l = go (D .answer c s) refl
     where
       go : (r : ℕ) → D .answer c s ≡ r → length (U .done (after D c s)) ≡ n
-      go zero e = ap length (marks-at c s e) ∙ length-set (U .done s) (addr c) 1 ∙ l
-      go (suc r) e = ap (λ u. length (U .done u)) (is c s e) ∙ l
+      go zero e = ap length (done-after c s e) ∙ length-set (U .done s) (addr c) 1 ∙ l
+      go (suc r) e = ap (λ u. length (U .done u)) (after-is c s e) ∙ l
 
   module _ (step : ℕ → M → M) (N : ℕ → ℕ → Type 0) where
     -- a run and the order of the steps that it took
@@ -50,18 +50,18 @@ module _ {S C M : Type 0} {D : Driver S C} {U : View S M} {n : ℕ} {addr : C �
         go : (r : ℕ) → D .answer c s ≡ r → Ran cs (after D c s) → Ran (c ∷ cs) s
         go zero e t = record {
           order = addr c ∷ t .order;
-          permitted = (f .0, f .1, (λ b w. f .2 b (k .0 e .awaits b w)), subst (Permitted n N (t .order)) (marks-at c s e) (t .permitted));
-          memory = t .memory ∙ ap (λ u. build step (t .order) (U .memory u)) (is c s e) ∙ ap (build step (t .order)) (k .0 e .does);
-          done = t .done ∙ ap (marked (t .order)) (marks-at c s e);
+          permitted = (f .0, f .1, (λ b w. f .2 b (k .0 e .awaits b w)), subst (Permitted n N (t .order)) (done-after c s e) (t .permitted));
+          memory = t .memory ∙ ap (λ u. build step (t .order) (U .memory u)) (after-is c s e) ∙ ap (build step (t .order)) (k .0 e .does);
+          done = t .done ∙ ap (marked (t .order)) (done-after c s e);
         }
           where
             f : (addr c < n) × (¬ Done (U .done s) (addr c)) × ((b : ℕ) → waits c b → Done (U .done s) b)
             f = F .takes c s e l
         go (suc r) e t = record {
           order = t .order;
-          permitted = subst (λ u. Permitted n N (t .order) (U .done u)) (is c s e) (t .permitted);
-          memory = t .memory ∙ ap (λ u. build step (t .order) (U .memory u)) (is c s e);
-          done = t .done ∙ ap (λ u. marked (t .order) (U .done u)) (is c s e);
+          permitted = subst (λ u. Permitted n N (t .order) (U .done u)) (after-is c s e) (t .permitted);
+          memory = t .memory ∙ ap (λ u. build step (t .order) (U .memory u)) (after-is c s e);
+          done = t .done ∙ ap (λ u. marked (t .order) (U .done u)) (after-is c s e);
         }
 
   -- the count equals the ones of the map, whatever the calls
@@ -73,7 +73,7 @@ module _ {S C M : Type 0} {D : Driver S C} {U : View S M} {n : ℕ} {addr : C �
   counted-after c s k = go (D .answer c s) refl
     where
       go : (r : ℕ) → D .answer c s ≡ r → Counted (after D c s)
-      go zero e = record { long = long-after c s (k .long); right = ap (U .count) (is c s e) ∙ right′ ∙ ap ones (sym (marks-at c s e)) }
+      go zero e = record { long = long-after c s (k .long); right = ap (U .count) (after-is c s e) ∙ right′ ∙ ap ones (sym (done-after c s e)) }
         where
           t : (addr c < n) × (¬ Done (U .done s) (addr c)) × ((b : ℕ) → waits c b → Done (U .done s) b)
           t = F .takes c s e (k .long)
@@ -85,7 +85,7 @@ module _ {S C M : Type 0} {D : Driver S C} {U : View S M} {n : ℕ} {addr : C �
           right′ =
               F .counts c s e (k .long)
               ∙ omega (arith, more, k .right, k .long, ones-le (set (U .done s) (addr c) 1), length-set (U .done s) (addr c) 1)
-      go (suc r) e = subst Counted (sym (is c s e)) k
+      go (suc r) e = subst Counted (sym (after-is c s e)) k
 
   counted-run : (cs : List C) (s : S) → Counted s → Counted (play D cs s)
   counted-run [] s k = k
@@ -120,7 +120,7 @@ module _ {S C M : Type 0} {D : Driver S C} {U : View S M} {n : ℕ} {addr : C �
       ends = t .done ∙ ap (marked (t .order)) (st .empty)
 
       -- a step that is done holds what the order 0, 1, .. gives, whatever the two memories held before
-      pub done-is-raster : (q : M) → ok q → (a : ℕ) → a < n → Done (U .done (play D cs s)) a → Agree at (R a) (U .memory (play D cs s)) (upTo step n q)
+      pub done-is-raster : (q : M) → ok q → (a : ℕ) → a < n → Done (U .done (play D cs s)) a → Alike at (R a) (U .memory (play D cs s)) (upTo step n q)
       done-is-raster q kq a ha dn i r = ap (λ m. at m i) (t .memory) ∙ done-agrees L (t .order) (U .memory s) q kp kq allowed a ha (subst (λ d. Done d a) ends dn) i r
 
       -- a place in no region keeps what it held
@@ -145,8 +145,8 @@ module _ {S C M : Type 0} {D : Driver S C} {U : View S M} {n : ℕ} {addr : C �
     sound-after c s k = record { good = go (D .answer c s) refl; right = counted-after c s (k .right) }
       where
         go : (r : ℕ) → D .answer c s ≡ r → ok (U .memory (after D c s))
-        go zero e = subst (λ u. ok (U .memory u)) (sym (is c s e)) (K .spares c s e (k .good))
-        go (suc r) e = subst (λ u. ok (U .memory u)) (sym (is c s e)) (k .good)
+        go zero e = subst (λ u. ok (U .memory u)) (sym (after-is c s e)) (K .spares c s e (k .good))
+        go (suc r) e = subst (λ u. ok (U .memory u)) (sym (after-is c s e)) (k .good)
 
     pub sound-run : (cs : List C) {s : S} → Started D U n addr s → ok (U .memory s) → Sound (play D cs s)
     sound-run cs {s} st k = go cs s (record { good = k; right = counted-start st })
@@ -172,7 +172,7 @@ module _ {S C M : Type 0} {D : Driver S C} {U : View S M} {n : ℕ} {addr : C �
         permitted-taken [] s k t = (refl, refl)
         permitted-taken (a ∷ o) s k t =
             let e = taken-now s k (A a (t .0)) (t .1) (t .2) in
-            let m = marks-at (offer a) s e ∙ ap (λ b. set (U .done s) b 1) (A a (t .0) .at-step) in
+            let m = done-after (offer a) s e ∙ ap (λ b. set (U .done s) b 1) (A a (t .0) .at-step) in
             let more = permitted-taken o (after D (offer a) s) (sound-after (offer a) s k) (subst (Permitted n N o) (sym m) (t .3)) in
             (ap₂ (λ x xs. x ∷ xs) e (more .0), more .1 ∙ ap (marked o) m)
 

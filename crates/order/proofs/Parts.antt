@@ -5,7 +5,7 @@ use native.Mathlib.Nat.{le-refl, not-suc-le-zero, le-of-suc-le, lt-of-lt-of-le}
 use native.Mathlib.Decide.{ℕ-discrete}
 use native.Mathlib.Omega.{arith}
 use Rattle.laws.specs.Steps.{upTo}
-use Rattle.order.specs.Order.{Agree}
+use Rattle.order.specs.Order.{Alike}
 use Rattle.order.specs.Parts.{Parts}
 
 module _ {M I X : Type 0} {at : M → I → X} {ok : M → Type 0} {E : I → Type 0} {n : ℕ} {R : ℕ → I → Type 0} {part : ℕ → M → M}
@@ -29,11 +29,11 @@ module _ {M I X : Type 0} {at : M → I → X} {ok : M → Type 0} {E : I → Ty
       ap (λ m. at m i) (first-suc k p) ∙ B .writes k (first k p) i h (first-keeps k p (le-of-suc-le h) o) (out k (le-refl (suc k)))
       ∙ first-writes k p i (le-of-suc-le h) o (λ j l. out j (omega arith))
 
-  first-outside : (k : ℕ) (p : M) → k ≤ n → ok p → Agree at E (first k p) p
+  first-outside : (k : ℕ) (p : M) → k ≤ n → ok p → Alike at E (first k p) p
   first-outside k p h o i e = first-writes k p i h o (λ j l r. B .outside j i (lt-of-lt-of-le l h) r e)
 
   -- after k parts the two memories agree on all that these wrote
-  first-reads : (k : ℕ) (p q : M) → k ≤ n → ok p → ok q → Agree at E p q → (j : ℕ) → j < k → Agree at (R j) (first k p) (first k q)
+  first-reads : (k : ℕ) (p q : M) → k ≤ n → ok p → ok q → Alike at E p q → (j : ℕ) → j < k → Alike at (R j) (first k p) (first k q)
   first-reads zero p q h op oq e j l i r = absurd (not-suc-le-zero l)
   first-reads (suc k) p q h op oq e j l i r = rw (first-suc k p, first-suc k q) (go (ℕ-discrete j k) (first-reads k p q (le-of-suc-le h) op oq e))
     where
@@ -46,10 +46,10 @@ module _ {M I X : Type 0} {at : M → I → X} {ok : M → Type 0} {E : I → Ty
       kq : ok (first k q)
       kq = first-keeps k q h′ oq
 
-      out : Agree at E (first k p) (first k q)
+      out : Alike at E (first k p) (first k q)
       out i x = first-outside k p h′ op i x ∙ e i x ∙ sym (first-outside k q h′ oq i x)
 
-      go : Dec (j ≡ k) → ((m : ℕ) → m < k → Agree at (R m) (first k p) (first k q)) → at (part k (first k p)) i ≡ at (part k (first k q)) i
+      go : Dec (j ≡ k) → ((m : ℕ) → m < k → Alike at (R m) (first k p) (first k q)) → at (part k (first k p)) i ≡ at (part k (first k q)) i
       go (yes d) ih = B .reads k (first k p) (first k q) h kp kq out ih i (rw d at r)
       go (no d) ih =
           let x : ¬ R k i = λ r′. d (B .apart j k i (lt-of-lt-of-le l h) h r r′) in
@@ -80,5 +80,5 @@ module _ {M I X : Type 0} {at : M → I → X} {ok : M → Type 0} {E : I → Ty
   pub parts-writes : (p : M) (i : I) → ok p → ((k : ℕ) → k < n → ¬ R k i) → at (upTo part n p) i ≡ at p i
   parts-writes p i o out = first-writes n p i (le-refl n) o out
 
-  pub parts-reads : (p q : M) → ok p → ok q → Agree at E p q → (k : ℕ) → k < n → Agree at (R k) (upTo part n p) (upTo part n q)
+  pub parts-reads : (p q : M) → ok p → ok q → Alike at E p q → (k : ℕ) → k < n → Alike at (R k) (upTo part n p) (upTo part n q)
   parts-reads p q op oq e k h = first-reads n p q (le-refl n) op oq e k h

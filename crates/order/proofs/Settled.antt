@@ -8,7 +8,7 @@ use native.Mathlib.Decide.{ℕ-discrete}
 use native.Mathlib.Omega.{arith}
 use lib.ListN.{set, length, length-set, replicate, getD-replicate}
 use lib.Seq.{getD-set-same, getD-set-other}
-use Rattle.order.specs.Order.{Agree, Laws, Done, Ready, build, marked, Permitted}
+use Rattle.order.specs.Order.{Alike, Laws, Done, Ready, build, marked, Permitted}
 
 -- the map after one more step: that step is done, and the others are as before
 pub done-here : (d : List ℕ) (a : ℕ) → a < length d → Done (set d a 1) a
@@ -27,11 +27,11 @@ done-before d a b q e = sym (getD-set-other d a b 1 0 q) ∙ e
 module _ {M I X : Type 0} {at : M → I → X} {ok : M → Type 0} {n : ℕ} {R : ℕ → I → Type 0} {N : ℕ → ℕ → Type 0} {step : ℕ → M → M}
     (L : Laws at ok n R N step) where
   -- a step done elsewhere leaves a region as it was
-  elsewhere : (a b : ℕ) (p : M) → a < n → b < n → ok p → b ≢ a → Agree at (R b) p (step a p)
+  elsewhere : (a b : ℕ) (p : M) → a < n → b < n → ok p → b ≢ a → Alike at (R b) p (step a p)
   elsewhere a b p ha hb k q i r = sym (L .writes a p i ha k (λ s. q (L .apart b a i hb ha r s)))
 
   -- taken again on what it led to, a step writes the same again
-  again : (a : ℕ) (p : M) → a < n → ok p → Agree at (R a) (step a p) (step a (step a p))
+  again : (a : ℕ) (p : M) → a < n → ok p → Alike at (R a) (step a p) (step a (step a p))
   again a p h k =
       L .reads a p (step a p) h k (L .keeps a p h k)
       (λ b w. let e = L .earlier a b h w in elsewhere a b p h (lt-trans e h) k (λ q. lt-irrefl a (rw q at e)))
@@ -39,7 +39,7 @@ module _ {M I X : Type 0} {at : M → I → X} {ok : M → Type 0} {n : ℕ} {R 
   -- At each done step: what it waits for is done, and its region holds what it would write there now
   pub record Settled (p : M) (d : List ℕ) : Type 0 where
     pub closed : (a : ℕ) → a < n → Done d a → Ready N d a
-    pub fixed : (a : ℕ) → a < n → Done d a → Agree at (R a) p (step a p)
+    pub fixed : (a : ℕ) → a < n → Done d a → Alike at (R a) p (step a p)
 
   pub settled-step : (a : ℕ) (p : M) (d : List ℕ) → a < n → ok p → length d ≡ n → ¬ Done d a → Ready N d a → Settled p d → Settled (step a p) (set d a 1)
   settled-step a p d ha k len undone ready s = record { closed = closed′; fixed = fixed′ }
@@ -54,7 +54,7 @@ module _ {M I X : Type 0} {at : M → I → X} {ok : M → Type 0} {n : ℕ} {R 
           go (yes q) = ready c (rw q at w)
           go (no q) = s .closed b hb (done-before d a b q e) c w
 
-      fixed′ : (b : ℕ) → b < n → Done (set d a 1) b → Agree at (R b) (step a p) (step b (step a p))
+      fixed′ : (b : ℕ) → b < n → Done (set d a 1) b → Alike at (R b) (step a p) (step b (step a p))
       fixed′ b hb e i r = go (ℕ-discrete b a)
         where
           go : Dec (b ≡ a) → at (step a p) i ≡ at (step b (step a p)) i
@@ -91,10 +91,10 @@ module _ {M I X : Type 0} {at : M → I → X} {ok : M → Type 0} {n : ℕ} {R 
 
   -- Two settled memories agree on a set S of steps that is closed under waiting and done in both
   pub agree-on : (p q : M) (d e : List ℕ) → ok p → ok q → Settled p d → Settled q e
-      → (S : ℕ → Type 0) → ((a b : ℕ) → S a → N a b → S b) → ((a : ℕ) → S a → Done d a × Done e a) → (a : ℕ) → a < n → S a → Agree at (R a) p q
+      → (S : ℕ → Type 0) → ((a b : ℕ) → S a → N a b → S b) → ((a : ℕ) → S a → Done d a × Done e a) → (a : ℕ) → a < n → S a → Alike at (R a) p q
   agree-on p q d e kp kq sp sq S cl dn a ha sa = go (suc a) a (le-refl (suc a)) ha sa
     where
-      go : (k a : ℕ) → a < k → a < n → S a → Agree at (R a) p q
+      go : (k a : ℕ) → a < k → a < n → S a → Alike at (R a) p q
       go zero a h ha sa i r = absurd (not-suc-le-zero h)
       go (suc k) a h ha sa i r =
           sp .fixed a ha (dn a sa .0) i r

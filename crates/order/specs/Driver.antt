@@ -38,7 +38,8 @@ module _ {S C M : Type 0} (D : Driver S C) (U : View S M) (n : ℕ) (addr : C �
 
   -- A driver of n steps takes only steps that it has, that are undone, and for which all that the call waits for is done. It marks and counts them.
   pub record Fair (waits : C → ℕ → Type 0) : Type 0 where
-    pub takes : (c : C) (s : S) → D .answer c s ≡ 0 → length (U .done s) ≡ n → (addr c < n) × (¬ Done (U .done s) (addr c)) × ((b : ℕ) → waits c b → Done (U .done s) b)
+    pub takes : (c : C) (s : S) → D .answer c s ≡ 0 → length (U .done s) ≡ n
+        → (addr c < n) × (¬ Done (U .done s) (addr c)) × ((b : ℕ) → waits c b → Done (U .done s) b)
     pub marks : (c : C) (s : S) → U .done (D .taken c s) ≡ set (U .done s) (addr c) 1
     pub counts : (c : C) (s : S) → D .answer c s ≡ 0 → length (U .done s) ≡ n → U .count (D .taken c s) ≡ min (U .count s + 1) n
 

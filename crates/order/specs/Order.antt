@@ -8,9 +8,9 @@ use Prim.Native.Nat.{ℕ, zero, suc, _+_, _<_}
 use lib.Dec.{eqb}
 use lib.ListN.{getD, set}
 
--- two memories hold the same at every place of S
-abbrev pub Agree : {M I X : Type 0} (at : M → I → X) (S : I → Type 0) (p q : M) → Type 0
-Agree {I} at S p q = (i : I) → S i → at p i ≡ at q i
+-- two memories are alike on S: they hold the same at every place of it
+abbrev pub Alike : {M I X : Type 0} (at : M → I → X) (S : I → Type 0) (p q : M) → Type 0
+Alike {I} at S p q = (i : I) → S i → at p i ≡ at q i
 
 -- What is asked of n steps. `ok` is what a memory needs to be worked on at all: for planes, their lengths.
 pub record Laws {M I X : Type 0} (at : M → I → X) (ok : M → Type 0) (n : ℕ) (R : ℕ → I → Type 0) (N : ℕ → ℕ → Type 0) (step : ℕ → M → M) : Type 0 where
@@ -22,7 +22,7 @@ pub record Laws {M I X : Type 0} (at : M → I → X) (ok : M → Type 0) (n : �
   -- a step writes in its own region only
   pub writes : (a : ℕ) (p : M) (i : I) → a < n → ok p → ¬ R a i → at (step a p) i ≡ at p i
   -- what it writes there depends on the regions that it waits for, and on nothing else
-  pub reads : (a : ℕ) (p q : M) → a < n → ok p → ok q → ((b : ℕ) → N a b → Agree at (R b) p q) → Agree at (R a) (step a p) (step a q)
+  pub reads : (a : ℕ) (p q : M) → a < n → ok p → ok q → ((b : ℕ) → N a b → Alike at (R b) p q) → Alike at (R a) (step a p) (step a q)
 
 abbrev pub Done : List ℕ → ℕ → Type 0
 Done d a = getD d a 0 ≡ 1

@@ -6,7 +6,7 @@ use Prim.Native.Nat.{ℕ, _<_}
 use lib.ListN.{length}
 use lib.Seq.{ext-getD}
 use Rattle.laws.proofs.Answers.{refused}
-use Rattle.order.specs.Order.{Agree, Done, AllDone, undoneFrom, raster}
+use Rattle.order.specs.Order.{Alike, Done, AllDone, undoneFrom, raster}
 use Rattle.order.specs.Driver.{after, play, Carries, Offers}
 use Rattle.order.proofs.AnyOrder.{done-agrees, ok-steps}
 use Rattle.order.proofs.Driver.{Sound, done-is-raster, whole-is-raster, padding-kept, ok-kept, counted, count-full, play-append, sound-run, first-taken, permitted-taken, rest-taken, rest-full, raster-taken}
@@ -57,11 +57,11 @@ module _ (g : Picture) (s : Lent) (lends : Lends g s) where
         padding-kept (fair (totalOf g)) (laws g s lends) cs (started g s) (begins g s lends) good kept i (λ a h t. out (a, h, t))
         ∙ ap (λ planes. sampleAt planes i) (planes-kept g s lends)
 
-    settled : (a : ℕ) → a < totalOf g → Done (run g cs s .done) a → Agree sampleAt (Region g a) (run g cs s .planes) (decoded g (s .planes))
+    settled : (a : ℕ) → a < totalOf g → Done (run g cs s .done) a → Alike sampleAt (Region g a) (run g cs s .planes) (decoded g (s .planes))
     settled a h d = done-is-raster (fair (totalOf g)) (laws g s lends) cs (started g s) (begins g s lends) good kept (s .planes) (λ q. refl) a h d
 
   -- raster order over other planes of the same lengths
-  same-picture : (t : Planes) → Good g s lends t → Agree sampleAt (InPicture g) (decoded g (s .planes)) (decoded g t)
+  same-picture : (t : Planes) → Good g s lends t → Alike sampleAt (InPicture g) (decoded g (s .planes)) (decoded g t)
   same-picture t same i (a, h, r) =
       sym (ap (λ m. sampleAt m i) (build-raster (step g) (totalOf g) (s .planes)))
       ∙ done-agrees (laws g s lends) (raster (totalOf g)) (s .planes) t (λ q. refl) same (raster-permitted (totalOf g) (Awaits g) (laws g s lends .earlier)) a h (raster-done (totalOf g) a h) i r

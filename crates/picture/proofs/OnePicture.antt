@@ -10,6 +10,7 @@ use Rattle.laws.proofs.Answers.{put, passes-by}
 use Rattle.laws.proofs.Tests.{T-true}
 use Rattle.order.specs.Order.{Laws, Done}
 use Rattle.order.specs.Driver.{View, Started, Fair, Spares, Offers, after, Carries}
+use Rattle.maps.specs.Progress.{begun}
 use Rattle.maps.specs.Neighbours.{Side, besideX, besideY, beside}
 use Rattle.maps.specs.Size.{Size, Stands}
 use Rattle.maps.proofs.Beside.{Neighbour, available-at}
@@ -75,8 +76,8 @@ module _ (g : Picture) where
     sized = start-is (g .width) (g .height) (length (s .done)) (lends .starts)
 
     -- starting clears the map and the count
-    begun-at : started g s ≡ record { planes = s .planes; done = replicate (length (s .done)) 0; progress = record { count = 0; last = 0 } }
-    begun-at = put s (record { planes = s .planes; done = replicate (length (s .done)) 0; progress = record { count = 0; last = 0 } }) (lends .starts)
+    begun-at : started g s ≡ record { planes = s .planes; done = replicate (length (s .done)) 0; progress = begun }
+    begun-at = put s (record { planes = s .planes; done = replicate (length (s .done)) 0; progress = begun }) (lends .starts)
 
     pub begins : Started driver view (totalOf g) here (started g s)
     begins = record { empty = ap (λ t. t .done) begun-at ∙ ap (λ n. replicate n 0) (sized .1); none = ap (λ t. t .progress .count) begun-at }

@@ -6,11 +6,12 @@ use mathlib.Core.List.{List, map}
 use Prim.Native.Nat.{ℕ, _<_}
 use lib.ListN.{length, replicate}
 use Rattle.order.specs.Driver.{play, answers}
-use Rattle.order.specs.Order.{Agree, Done, AllDone, First, Permitted, undoneFrom, ones, raster}
+use Rattle.order.specs.Order.{Alike, Done, AllDone, First, Permitted, undoneFrom, ones, raster}
 use Rattle.maps.specs.Neighbours.{Side, beside}
 use Rattle.picture.specs.Planes.{Plane}
 use Rattle.picture.specs.Rebuild.{Call, Lent, here, waitsFor, Acceptable, answerTo, earlier}
-use Rattle.picture.specs.Run.{Picture, totalOf, offer, AllAcceptable, Awaits, Lends, decoded, Place, sampleAt, Region, InPicture, driver, started, run, Own, rest, Event, passed, callsOf, StartsRefused}
+use Rattle.picture.specs.Run.{Picture, totalOf, offer, AllAcceptable, Awaits, Lends, decoded, Place, sampleAt, Region, InPicture}
+use Rattle.picture.specs.Run.{driver, started, run, Own, rest, Event, passed, callsOf, StartsRefused}
 
 pub record AnyOrder (g : Picture) : Type 0 where
   -- ---- the right picture
@@ -19,12 +20,13 @@ pub record AnyOrder (g : Picture) : Type 0 where
       → (p : Plane) → run g cs s .planes p ≡ decoded g (s .planes) p
   -- whatever the planes held before: nothing of it is in the picture
   pub fresh : (s t : Lent) → Lends g s → ((p : Plane) → length (t .planes p) ≡ length (s .planes p))
-      → Agree sampleAt (InPicture g) (decoded g (s .planes)) (decoded g (t .planes))
+      → Alike sampleAt (InPicture g) (decoded g (s .planes)) (decoded g (t .planes))
   -- and padding is untouched, also half way
-  pub padding : (cs : List Call) (s : Lent) → Lends g s → Own g cs (started g s) → (i : Place) → ¬ InPicture g i → sampleAt (run g cs s .planes) i ≡ sampleAt (s .planes) i
+  pub padding : (cs : List Call) (s : Lent) → Lends g s → Own g cs (started g s) → (i : Place) → ¬ InPicture g i
+      → sampleAt (run g cs s .planes) i ≡ sampleAt (s .planes) i
   -- half way, a macroblock that is done is final
   pub final : (cs : List Call) (s : Lent) → Lends g s → Own g cs (started g s) → (a : ℕ) → a < totalOf g → Done (run g cs s .done) a
-      → Agree sampleAt (Region g a) (run g cs s .planes) (decoded g (s .planes))
+      → Alike sampleAt (Region g a) (run g cs s .planes) (decoded g (s .planes))
   -- the count equals the ones in the map, whatever was offered, and so tells when all is done
   pub counted : (cs : List Call) (s : Lent) → Lends g s → run g cs s .progress .count ≡ ones (run g cs s .done)
   pub full : (cs : List Call) (s : Lent) → Lends g s → run g cs s .progress .count ≡ totalOf g → AllDone (totalOf g) (run g cs s .done)
@@ -36,10 +38,13 @@ pub record AnyOrder (g : Picture) : Type 0 where
       → (answerTo c s ≡ 5) ↔ ((k : Side) × (waitsFor c k ≡ true) × ¬ Done (s .done) (beside (c .width) (c .x) (c .y) k))
   -- so the first undone macroblock, by address, never is
   pub first-undone : (c : Call) (s : Lent) → ((b : ℕ) → b < here c → Done (s .done) b) → ¬ (answerTo c s ≡ 5)
-  -- after any run, whatever was refused, repeated or abandoned in it: there is a first undone macroblock while not all are done, and its own acceptable record is accepted
+  -- after any run, whatever was refused, repeated or abandoned in it: while not all are done there is a first undone macroblock, and its own acceptable
+  -- record is accepted
   pub some-first : (cs : List Call) (s : Lent) → ¬ AllDone (totalOf g) (run g cs s .done) → (a : ℕ) × First (totalOf g) (run g cs s .done) a
-  pub first-accepted : (cs : List Call) (s : Lent) → Lends g s → (a : ℕ) → First (totalOf g) (run g cs s .done) a → Acceptable (offer g a) → answerTo (offer g a) (run g cs s) ≡ 0
-  -- so from every state that a run reaches, the undone macroblocks by address meet no refusal and finish the picture, which is the right one if the run's records were its own
+  pub first-accepted : (cs : List Call) (s : Lent) → Lends g s → (a : ℕ) → First (totalOf g) (run g cs s .done) a → Acceptable (offer g a)
+      → answerTo (offer g a) (run g cs s) ≡ 0
+  -- so from every state that a run reaches, the undone macroblocks by address meet no refusal and finish the picture; it is the right one if the run's
+  -- records were its own
   pub rest-accepted : (cs : List Call) (s : Lent) → Lends g s → AllAcceptable g
       → answers driver (rest g (run g cs s .done)) (run g cs s) ≡ replicate (length (undoneFrom 0 (run g cs s .done))) 0
   pub rest-done : (cs : List Call) (s : Lent) → Lends g s → AllAcceptable g → AllDone (totalOf g) (play driver (rest g (run g cs s .done)) (run g cs s) .done)

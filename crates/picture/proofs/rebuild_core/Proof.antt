@@ -39,11 +39,11 @@ first c = c .before .before .before .before .before .before .before .before .bef
 abbrev start : tie.Else1 → tie.Start
 start c = first (c .before)
 
-abbrev marked : tie.After-ready → tie.After-marks-of
-marked c = c .before .before
+abbrev looked : tie.After-ready → tie.After-marks-of
+looked c = c .before .before
 
 abbrev tested : tie.Else2 → tie.Else1
-tested c = marked (c .before) .before
+tested c = looked (c .before) .before
 
 abbrev asked : tie.After-rebuild → tie.Else2
 asked c = c .before .before .before .before
@@ -65,13 +65,13 @@ within : (c : tie.Else1) → let a = start c .args in (here (given (start c)) < 
 within c = let a = start c .args in (address-inside (a .w) (a .h) (a .x) (a .y) (passed c .place), total-most (a .w) (a .h) (passed c .size))
 
 -- the marks are the picture's, and so `ready` tells whether the call is
-marked-is : (c : tie.After-marks-of) → marksOf (c .marks-of .result) ≡ marks (given (start (c .before)))
-marked-is c =
+marks-right : (c : tie.After-marks-of) → marksOf (c .marks-of .result) ≡ marks (given (start (c .before)))
+marks-right c =
     let a = start (c .before) .args in let g = passed (c .before) in
     c .marks-of .ensures ∙ marks-at (a .w) (a .h) (a .slices .now) (a .x) (a .y) (g .size) (g .room .slices-long) (g .place)
 
-ready-is : (c : tie.After-ready) → let s = start (marked c .before) in c .ready .result ≡ readyNow (given s) (held s)
-ready-is c = let a = start (marked c .before) .args in c .ready .ensures ∙ ap (λ m. allSettled (a .w) (a .x) (a .y) m (a .done .now)) (marked-is (marked c))
+ready-is : (c : tie.After-ready) → let s = start (looked c .before) in c .ready .result ≡ readyNow (given s) (held s)
+ready-is c = let a = start (looked c .before) .args in c .ready .ensures ∙ ap (λ m. allSettled (a .w) (a .x) (a .y) m (a .done .now)) (marks-right (looked c))
 
 ok-ready : (c : tie.Else2) → readyNow (given (start (tested c))) (held (start (tested c))) ≡ true
 ok-ready c = sym (ready-is (c .before)) ∙ not-false _ (c .if2 .left)
@@ -81,7 +81,7 @@ answered : (c : tie.After-rebuild) → c .rebuild .result ≡ answer (recordRule
 answered c =
     let s = start (tested (asked c)) in
     let g = passed (tested (asked c)) in
-    by-macroblock (given s) (λ p. length (held s .planes p)) (g .room .planes) (g .place) _ (marked-is (marked (asked c .before))) (c .rebuild .ensures .0)
+    by-macroblock (given s) (λ p. length (held s .planes p)) (g .room .planes) (g .place) _ (marks-right (looked (asked c .before))) (c .rebuild .ensures .0)
 
 -- a plane that a refused macroblock call leaves, and one that an accepted call leaves
 old : {r : ℕ} {z : List ℕ} (l v : List ℕ) → ¬ (r ≡ 0) → z ≡ written r l v → z ≡ l
@@ -95,7 +95,7 @@ returns c = let s = first (c .before) in refused-early (given s) (held s) (early
 
 returns-2 : tie.Need-returns-2
 returns-2 c =
-    let e = marked (c .before) .before in
+    let e = looked (c .before) .before in
     refused-5 (given (start e)) (held (start e)) (ok-early e) (sym (ready-is (c .before)) ∙ not-true _ (c .if2 .taken))
 
 returns-3 : tie.Need-returns-3
@@ -130,7 +130,7 @@ returns-4 c =
     let a = start e .args in
     let r = recordOf (a .kind) (a .modes .now) (a .chroma-mode) (a .numbers .now) in
     let q = d .rebuild .ensures in
-    let m = marked-is (marked (asked d .before)) in
+    let m = marks-right (looked (asked d .before)) in
     let z = c .before .if3 .left in
     taken (given (start e)) (held (start e)) (ok-early e) (ok-ready (asked d)) (sym z ∙ answered d)
     (lent-same
