@@ -17,7 +17,7 @@ use Rattle.laws.proofs.Ontos.{onto-at, onto-long, onto-all}
 use Rattle.laws.proofs.Tables.{length-table}
 use Rattle.laws.proofs.Tests.{choose}
 use Rattle.intra_nxn.specs.IntraNxN.{downLeft, downRight, verticalRight, horizontalDown, verticalLeft, horizontalUp}
-use Rattle.samples.specs.Near.{Near, vertical}
+use Rattle.samples.specs.Near.{Near}
 use Rattle.intra_nxn.specs.inner.Run.{Run, Means, Line, Twin, slid, meanRound, meanFrom, pairs}
 use Rattle.intra_nxn.proofs.Places.{at-downLeft, at-downRight, at-verticalRight, at-horizontalDown, at-verticalLeft, at-horizontalUp}
 use Rattle.intra_nxn.proofs.Runs.{Filling, run-kept, means-there}
@@ -101,13 +101,6 @@ pub rows-are : (n : ℕ) (f g : ℕ → ℕ → ℕ) (old : List ℕ) {out : Lis
 rows-are n f g old len e h = e ∙ onto-all (n * n) _ old len ∙ block-same n f g h
 
 module _ (p : Near) (e : List ℕ) (run : Run 8 p e) where
-  -- Vertical: windows of the run itself
-  pub is-vertical : (x y : ℕ) → x < 8 → slid e 64 e 64 0 0 x y ≡ vertical p x y
-  is-vertical x y h = choose (λ v. v ≡ vertical p x y) (eqb (y % 2) 0) _ _ (λ _. here) (λ _. here)
-    where
-      here : getD e (64 + 0 * (y / 2) - 0 * (y / 2) + x) 0 ≡ vertical p x y
-      here = ap (λ (i : ℕ). getD e i 0) (omega arith) ∙ run .above (x + 1) (omega arith)
-
   -- the run and its means in one list, as Places reads them
   abbrev in-turn : ℕ → ℕ
   in-turn i = cond (eqb (i % 2) 0) (meanRound e (i / 2)) (meanFrom e (i / 2))

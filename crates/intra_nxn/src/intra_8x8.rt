@@ -8,7 +8,7 @@ ghost use Rattle.laws.specs.Table.{blockOf, onto};
 ghost use Rattle.samples.specs.Marks.{permittedNxN, modeAnswer, predAnswer};
 ghost use Rattle.samples.specs.Near.{Near, near};
 ghost use Rattle.intra_nxn.specs.IntraNxN.{predNxN, pred8x8L};
-ghost use Rattle.intra_nxn.specs.inner.Run.{Run, Reach, slid};
+ghost use Rattle.intra_nxn.specs.inner.Run.{Run, slid};
 use super::filter::filtered_of;
 use super::lines::down_line;
 use super::lines::left_lines;
@@ -88,7 +88,7 @@ fn draw8(mode: u8, above: bool, left: bool, e: &[u8; 81], out: &mut [u8])
     ensures { λ _. ⌜ ((p : Near) → Run 8 p (now (e .entry)) → now (out .exit) ≡ blockOf 8 (predNxN 8 mode above left p)) ⌝ }
 {
     if mode < 1 {
-        slide(e, 64, e, 64, 0, 0, out);
+        above8(e, out);
         return;
     }
     if mode < 2 {
@@ -137,8 +137,16 @@ fn slant8(mode: u8, e: &[u8; 81], out: &mut [u8])
 
 // Eight rows, each a window of a line: row 2z is of `even` and row 2z + 1 of `odd`. The first two start at a and b, and each two after them `up` places
 // further on or `back` places back.
-fn slide(even: &[u8], a: usize, odd: &[u8], b: usize, up: usize, back: usize, out: &mut [u8])
-    requires { ⌜ Reach (now even) a up back × Reach (now odd) b up back × (64 ≤ length (now out)) ⌝ }
+fn slide(
+    even: &[u8; 32],
+    a: usize,
+    odd: &[u8; 32],
+    b: usize,
+    up: usize,
+    back: usize,
+    out: &mut [u8],
+)
+    requires { ⌜ (3 * back ≤ a) × (3 * back ≤ b) × (a + 3 * up ≤ 24) × (b + 3 * up ≤ 24) × (64 ≤ length (now out)) ⌝ }
     ensures { λ _. ⌜ now (out .exit)
         ≡ onto 64 (λ k. slid (now (even .entry)) a (now (odd .entry)) b up back (k % 8) (k / 8)) (now (out .entry)) ⌝ }
 {
@@ -149,8 +157,8 @@ fn slide(even: &[u8], a: usize, odd: &[u8], b: usize, up: usize, back: usize, ou
 }
 
 fn moved(at: usize, up: usize, back: usize, z: usize) -> usize
-    requires { ⌜ (z ≤ 3) × (3 * back ≤ at) × (at + 3 * up ≤ 73) ⌝ }
-    ensures { λ r. ⌜ (r ≡ at + up * z - back * z) × (r ≤ at + 3 * up) ⌝ }
+    requires { ⌜ (z ≤ 3) × (3 * back ≤ at) × (at + 3 * up ≤ 24) ⌝ }
+    ensures { λ r. ⌜ (r ≡ at + up * z - back * z) × (r ≤ 24) ⌝ }
 {
     at + up * z - back * z
 }
@@ -162,6 +170,16 @@ fn window(line: &[u8], at: usize, row: &mut [u8])
 {
     for i in 0..8 {
         row[i] = line[at + i];
+    }
+}
+
+// Eight rows, each the line above the block.
+fn above8(e: &[u8; 81], out: &mut [u8])
+    requires { ⌜ 64 ≤ length (now out) ⌝ }
+    ensures { λ _. ⌜ now (out .exit) ≡ onto 64 (λ k. getD (now (e .entry)) (64 + k % 8) 0) (now (out .entry)) ⌝ }
+{
+    for y in 0..8 {
+        window(e, 64, &mut out[8 * y..]);
     }
 }
 

@@ -69,12 +69,6 @@ pub record Twin (k : ℕ) (f g : ℕ → ℕ) (l : List ℕ) : Type 0 where
 unfoldable pub pairs : ℕ → (ℕ → ℕ) → (ℕ → ℕ) → (ℕ → ℕ) → ℕ → ℕ
 pairs m f g h j = cond (ltb j m) (cond (eqb (j % 2) 0) (f (j / 2)) (g (j / 2))) (h j)
 
--- eight places of a line from `at` on, and of those that are up to three steps of `up` further on or of `back` further back
-pub record Reach (l : List ℕ) (at up back : ℕ) : Type 0 where
-  pub low : 3 * back ≤ at
-  pub high : at + 3 * up + 8 ≤ length l
-  pub small : length l ≤ 81
-
 -- the sample in column x and row y of a block whose rows are windows of two lines in turn
 abbrev pub slid : List ℕ → ℕ → List ℕ → ℕ → ℕ → ℕ → ℕ → ℕ → ℕ
 slid even a odd b up back x y =

@@ -6,8 +6,7 @@ use denote.Ref.{now}
 use lib.ListN.{getD}
 use Rattle.samples.proofs.Lines.{fill-block}
 use Rattle.intra_nxn.specs.IntraNxN.{predNxN}
-use Rattle.intra_nxn.specs.inner.Run.{slid}
-use Rattle.intra_nxn.proofs.Slides.{rows-are, is-vertical}
+use Rattle.intra_nxn.proofs.Slides.{rows-are}
 use borrow.Author.Needs.{needs}
 use Rattle.intra_nxn.proofs.intra_8x8.draw8.Statement.{statement}
 use Rattle.intra_nxn.proofs.intra_8x8.draw8.Tie as tie
@@ -16,11 +15,11 @@ returns : tie.Need-returns
 unfolding predNxN
 returns c p run =
     let d = c .before .before in
-    let z = d .before .before .before .before .before .before in
-    let h : z .args .mode ≡ 0 = omega arith in
+    let z = d .before .before .before .before in
     let e = now (z .args .e) in
-    rows-are 8 (λ x y. slid e 64 e 64 0 0 x y) (predNxN 8 (z .args .mode) (z .args .above) (z .args .left) p) (now (z .args .out)) (z .pre .1) (d .slide .ensures)
-    (λ x y hx hy. rw h (is-vertical p e run x y hx))
+    let h : z .args .mode ≡ 0 = omega arith in
+    rows-are 8 (λ x y. getD e (64 + x) 0) (predNxN 8 (z .args .mode) (z .args .above) (z .args .left) p) (now (z .args .out)) (z .pre .1) (d .above8 .ensures)
+    (λ x y hx hy. rw h (ap (λ (k : ℕ). getD e k 0) (omega arith) ∙ run .above (x + 1) (omega arith)))
 
 returns-2 : tie.Need-returns-2
 unfolding predNxN
