@@ -21,11 +21,11 @@ use Rattle.macroblock.proofs.Pieces.{put-same}
 module _ (c : Cut) (predict : ℕ → Sides → Near → ℕ → ℕ → ℕ) (residual : ℕ → ℕ → ℕ → ℤ) (p : Place) (marks : Side → Bool) (k : ℕ) (some : 0 < c .side)
     {block : Place} {sides : Sides} (stands : block ≡ placeOf (c .across) p k) (there : sides ≡ sidesOf (c .across) marks k) where
   -- the prediction, read back sample by sample, and residuals that are the definition's there
-  pub drawn : (off : ℕ → ℕ → ℕ) (r : ℕ → ℕ → ℤ) (plane : List ℕ) {pred out : List ℕ} → pred ≡ blockOf (c .side) (predict k sides (nearBlock (c .side) block plane sides (c .wide)))
+  pub part-drawn : (off : ℕ → ℕ → ℕ) (r : ℕ → ℕ → ℤ) (plane : List ℕ) {pred out : List ℕ} → pred ≡ blockOf (c .side) (predict k sides (nearBlock (c .side) block plane sides (c .wide)))
       → ((x y : ℕ) → off x y ≡ y * c .side + x) → ((x y : ℕ) → x < c .side → y < c .side → r x y ≡ residual k x y)
       → out ≡ putBlock (c .side) block (λ x y. Clip1 (pos (getD pred (off x y) 0) +ℤ r x y)) plane
       → out ≡ part c (λ k sides near x y. Clip1 (pos (predict k sides near x y) +ℤ residual k x y)) (p .stride) (p .column) (p .row) marks k plane
-  drawn off r plane e at same o =
+  part-drawn off r plane e at same o =
       let q = c .side in
       let f = predict k sides (nearBlock q block plane sides (c .wide)) in
       o

@@ -35,8 +35,8 @@ in-above {q} {n} {p} F h =
     record { some = b; line = omega (arith, g .line); product = omega (arith, F .within); whole = λ m l. omega (arith, F .within) }
 
 -- a macroblock's place in a plane that fits the memory is near
-pub low : {n : ℕ} {p : Place} → BlockIn 16 p n → n < 18446744073709551616 → Low p
-low F h = let g = in-row 15 F (omega arith) in record { rows = omega (arith, g .line); columns = omega (arith, F .wide, F .short) }
+pub place-low : {n : ℕ} {p : Place} → BlockIn 16 p n → n < 18446744073709551616 → Low p
+place-low F h = let g = in-row 15 F (omega arith) in record { rows = omega (arith, g .line); columns = omega (arith, F .wide, F .short) }
 
 -- where the samples above stand that lie over the block, those to the right of these, and those that repeat the last
 pub reach-over : (l z q t : ℕ) (right : Bool) → t < q → l + z + t ≡ l + (z + min t (cond right (2 * q - 1) (q - 1)))

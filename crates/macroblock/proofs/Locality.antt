@@ -26,7 +26,7 @@ use Rattle.macroblock.specs.Cut.{Cut, blocks, scanX, scanY, isThere, sid
 use Rattle.maps.specs.Neighbours.Side.{A, B, C, D}
 use Rattle.macroblock.specs.Local.{Local}
 use Rattle.macroblock.specs.Square.{inBlock, placeAt, aboveOf, leftOf, cornerOf, Rule, partPlace, partNear, part, allParts}
-use Rattle.macroblock.specs.inner.Blocks.{Scan, BlockIn, Stands}
+use Rattle.macroblock.specs.inner.Blocks.{Scan, BlockIn, StandsIn}
 use Rattle.macroblock.proofs.Held.{rowAt, columnAt, Held, held}
 use Rattle.macroblock.proofs.Places.{At, at-of, at-row, at-column, place-is}
 
@@ -78,7 +78,7 @@ in-plane {q} {n} {p} i F t =
 
 -- ---- a macroblock that stands in planes of n samples
 module _ (c : Cut) (rule : Rule) (n s x y : ℕ) (marks : Side → Bool) (S : Scan (c .across)) (some : 0 < c .side) (reach : c .wide ≤ 2 * c .side)
-    (stands : Stands (c .side * c .across) (placeAt s y x) n (squareSides marks)) where
+    (stands : StandsIn (c .side * c .across) (placeAt s y x) n (squareSides marks)) where
   abbrev q : ℕ
   q = c .side
 

@@ -10,18 +10,18 @@ use Rattle.macroblock.specs.Kinds.{cutFor, lumaRule, chromaRule}
 use Rattle.macroblock.specs.Local.{Local, Promise}
 use Rattle.macroblock.specs.Rules.{rooms}
 use Rattle.macroblock.specs.Square.{Rule, placeAt, allParts}
-use Rattle.macroblock.specs.inner.Blocks.{Stands}
+use Rattle.macroblock.specs.inner.Blocks.{StandsIn}
 use Rattle.macroblock.proofs.Locality.{square-local}
 use Rattle.macroblock.proofs.Rooms.{all-stand}
 use Rattle.macroblock.proofs.Scan.{scan-1, scan-2, scan-4}
 
 module _ (rule : Rule) (n s x y : ℕ) (marks : Side → Bool) where
-  luma-local : (kind : ℕ) → Stands 16 (placeAt s y x) n (squareSides marks) → Local n 16 s x y marks (allParts (cutFor kind) rule s x y marks)
+  luma-local : (kind : ℕ) → StandsIn 16 (placeAt s y x) n (squareSides marks) → Local n 16 s x y marks (allParts (cutFor kind) rule s x y marks)
   luma-local zero = square-local four rule n s x y marks scan-4 (omega arith) (omega arith)
   luma-local (suc zero) = square-local eight rule n s x y marks scan-2 (omega arith) (omega arith)
   luma-local (suc (suc _)) = square-local (whole 16) rule n s x y marks scan-1 (omega arith) (omega arith)
 
-  chroma-local : Stands 8 (placeAt s y x) n (squareSides marks) → Local n 8 s x y marks (allParts (whole 8) rule s x y marks)
+  chroma-local : StandsIn 8 (placeAt s y x) n (squareSides marks) → Local n 8 s x y marks (allParts (whole 8) rule s x y marks)
   chroma-local = square-local (whole 8) rule n s x y marks scan-1 (omega arith) (omega arith)
 
 pub promised : (x y lumaLen lumaStride cbLen cbStride crLen crStride : ℕ) (marks : Side → Bool) (r : Record)

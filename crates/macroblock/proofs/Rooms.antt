@@ -11,12 +11,12 @@ use Rattle.maps.specs.Neighbours.Side.{A, B, C, D}
 use Rattle.macroblock.specs.Cut.{squareSides}
 use Rattle.macroblock.specs.Square.{placeAt}
 use Rattle.macroblock.specs.Rules.{room, rooms}
-use Rattle.macroblock.specs.inner.Blocks.{Stands}
+use Rattle.macroblock.specs.inner.Blocks.{StandsIn}
 
 -- the square of side q
-pub stands : (q len s x y : ℕ) (marks : Side → Bool) → 0 < q → room q len s x y marks ≡ true → Stands q (placeAt s y x) len (squareSides marks)
+pub room-stands : (q len s x y : ℕ) (marks : Side → Bool) → 0 < q → room q len s x y marks ≡ true → StandsIn q (placeAt s y x) len (squareSides marks)
 unfolding room
-stands q len s x y marks some e =
+room-stands q len s x y marks some e =
     let t₁ = leb s 4096 in let t₂ = leb (x * q + q) s in let t₃ = leb ((y * q + (q - 1)) * s + (x * q + q)) len in
     let ta = not (marks A) || ltb 0 x in let tb = not (marks B) || ltb 0 y in
     let tc = not (marks C) || (ltb 0 y && leb (x * q + q + q) s) in let td = not (marks D) || (ltb 0 x && ltb 0 y) in
@@ -47,16 +47,16 @@ stands q len s x y marks some e =
 -- and the squares of the three planes
 module _ (x y lumaLen lumaStride cbLen cbStride crLen crStride : ℕ) (marks : Side → Bool) where
   pub record AllStand : Type 0 where
-    pub luma : Stands 16 (placeAt lumaStride y x) lumaLen (squareSides marks)
-    pub cb : Stands 8 (placeAt cbStride y x) cbLen (squareSides marks)
-    pub cr : Stands 8 (placeAt crStride y x) crLen (squareSides marks)
+    pub luma : StandsIn 16 (placeAt lumaStride y x) lumaLen (squareSides marks)
+    pub cb : StandsIn 8 (placeAt cbStride y x) cbLen (squareSides marks)
+    pub cr : StandsIn 8 (placeAt crStride y x) crLen (squareSides marks)
 
   pub all-stand : rooms x y lumaLen lumaStride cbLen cbStride crLen crStride marks ≡ true → AllStand
   all-stand e =
       let t₁ = room 16 lumaLen lumaStride x y marks in let t₂ = room 8 cbLen cbStride x y marks in let t₃ = room 8 crLen crStride x y marks in
       let f = and-left (t₁ && t₂) t₃ e in
       record {
-        luma = stands 16 lumaLen lumaStride x y marks (omega arith) (and-left t₁ t₂ f);
-        cb = stands 8 cbLen cbStride x y marks (omega arith) (and-right t₁ t₂ f);
-        cr = stands 8 crLen crStride x y marks (omega arith) (and-right (t₁ && t₂) t₃ e);
+        luma = room-stands 16 lumaLen lumaStride x y marks (omega arith) (and-left t₁ t₂ f);
+        cb = room-stands 8 cbLen cbStride x y marks (omega arith) (and-right t₁ t₂ f);
+        cr = room-stands 8 crLen crStride x y marks (omega arith) (and-right (t₁ && t₂) t₃ e);
       }

@@ -14,7 +14,7 @@ use Rattle.macroblock.specs.declared.cut.Sides.{Sides}
 use Rattle.macroblock.specs.Cut.{scanX, scanY, heldBy, isThere, sidesOf, squareSides, placeOf}
 use Rattle.maps.specs.Neighbours.Side.{A, B, C, D}
 use Rattle.macroblock.specs.Cut.Holder.{own, other, nobody}
-use Rattle.macroblock.specs.inner.Blocks.{Scan, BlockIn, SidesIn, Stands}
+use Rattle.macroblock.specs.inner.Blocks.{Scan, BlockIn, SidesIn, StandsIn}
 use Rattle.macroblock.proofs.Scan.{left-first, above-first, corner-first}
 
 module _ (m k : ℕ) (marks : Side → Bool) (S : Scan m) (hk : k < m * m) where
@@ -114,7 +114,7 @@ in-block q m k {n} {p} S some hk F =
     record { some = some; short = F .short; wide = omega (arith, F .wide); within = omega (arith, F .within) }
 
 -- and so do its sides
-module _ (q m k : ℕ) {n : ℕ} {p : Place} (marks : Side → Bool) (S : Scan m) (some : 0 < q) (hk : k < m * m) (T : Stands (q * m) p n (squareSides marks)) where
+module _ (q m k : ℕ) {n : ℕ} {p : Place} (marks : Side → Bool) (S : Scan m) (some : 0 < q) (hk : k < m * m) (T : StandsIn (q * m) p n (squareSides marks)) where
   abbrev U : ℕ
   U = scanX k
 
@@ -140,7 +140,7 @@ module _ (q m k : ℕ) {n : ℕ} {p : Place} (marks : Side → Bool) (S : Scan m
   next-beyond : p .column * (q * m) + q * m + q * m ≤ p .stride → (p .column * m + U) * q + q + q ≤ p .stride
   next-beyond h = omega (arith, line q m (p .column) U (S .x-lt k hk), mul-le-mul-left q (S .some))
 
-  pub stands-block : Stands q (placeOf m p k) n (sidesOf m marks k)
+  pub stands-block : StandsIn q (placeOf m p k) n (sidesOf m marks k)
   stands-block = record {
     block = in-block q m k S some hk (T .block);
     beside = record {
@@ -160,6 +160,6 @@ module _ (q m k : ℕ) {n : ℕ} {p : Place} (marks : Side → Bool) (S : Scan m
   }
 
 -- the same of the place and the sides that the code found
-pub stands-at : (q m k : ℕ) {n : ℕ} {p block : Place} {sides : Sides} (marks : Side → Bool) → Scan m → 0 < q → k < m * m → Stands (q * m) p n (squareSides marks)
-    → block ≡ placeOf m p k → sides ≡ sidesOf m marks k → Stands q block n sides
+pub stands-at : (q m k : ℕ) {n : ℕ} {p block : Place} {sides : Sides} (marks : Side → Bool) → Scan m → 0 < q → k < m * m → StandsIn (q * m) p n (squareSides marks)
+    → block ≡ placeOf m p k → sides ≡ sidesOf m marks k → StandsIn q block n sides
 stands-at q m k marks S some hk T e f = rw (e, f) (stands-block q m k marks S some hk T)

@@ -1,12 +1,12 @@
 // The samples beside a block, read from the plane as it stands. An absent side is not read, and leaves zeros.
 ghost use mathlib.Core.Path.{_≡_};
 ghost use mathlib.Core.Bool.{_&&_};
-ghost use Prim.Native.Nat.{_*_, _≤_};
+ghost use Prim.Native.Nat.{_≤_};
 ghost use lib.Dec.{ltb, leb};
 ghost use lib.ListN.{length, getD, replicate};
 ghost use Rattle.laws.specs.Patch.{patch};
 ghost use Rattle.macroblock.specs.Square.{aboveOf, leftOf, cornerOf};
-ghost use Rattle.macroblock.specs.inner.Blocks.{Stands, Blank};
+ghost use Rattle.macroblock.specs.inner.Blocks.{StandsIn, BlankTop, Blank};
 use super::cut::Place;
 use super::cut::Sides;
 
@@ -19,7 +19,7 @@ pub(crate) fn read_beside(
     top: &mut [u8],
     left: &mut [u8],
 ) -> u8
-    requires { ⌜ Stands q place (length (now plane)) sides ⌝ }
+    requires { ⌜ StandsIn q place (length (now plane)) sides ⌝ }
     requires { ⌜ Blank q (now top) (now left) ⌝ }
     ensures { λ r. ⌜ now (top .exit) ≡ aboveOf q place (now (plane .entry)) sides (length (now (top .entry))) ⌝ }
     ensures { λ r. ⌜ now (left .exit) ≡ leftOf q place (now (plane .entry)) sides ⌝ }
@@ -32,8 +32,8 @@ pub(crate) fn read_beside(
 
 // The samples above a block, as many as `out` takes.
 fn above_of(plane: &[u8], q: usize, place: Place, sides: Sides, out: &mut [u8])
-    requires { ⌜ Stands q place (length (now plane)) sides ⌝ }
-    requires { ⌜ (q ≤ length (now out)) × (length (now out) ≤ 2 * q) × (now out ≡ replicate (length (now out)) 0) ⌝ }
+    requires { ⌜ StandsIn q place (length (now plane)) sides ⌝ }
+    requires { ⌜ BlankTop q (now out) ⌝ }
     ensures { λ _. ⌜ now (out .exit) ≡ aboveOf q place (now (plane .entry)) sides (length (now (out .entry))) ⌝ }
 {
     if sides.above {
@@ -70,7 +70,7 @@ fn fill(v: u8, first: usize, end: usize, out: &mut [u8])
 
 // The samples left of a block.
 fn left_of(plane: &[u8], q: usize, place: Place, sides: Sides, out: &mut [u8])
-    requires { ⌜ Stands q place (length (now plane)) sides ⌝ }
+    requires { ⌜ StandsIn q place (length (now plane)) sides ⌝ }
     requires { ⌜ now out ≡ replicate q 0 ⌝ }
     ensures { λ _. ⌜ now (out .exit) ≡ leftOf q place (now (plane .entry)) sides ⌝ }
 {
@@ -86,7 +86,7 @@ fn left_of(plane: &[u8], q: usize, place: Place, sides: Sides, out: &mut [u8])
 
 // The sample above and to the left of a block.
 fn corner_of(plane: &[u8], q: usize, place: Place, sides: Sides) -> u8
-    requires { ⌜ Stands q place (length (now plane)) sides ⌝ }
+    requires { ⌜ StandsIn q place (length (now plane)) sides ⌝ }
     ensures { λ r. ⌜ r ≡ cornerOf q place (now (plane .entry)) sides ⌝ }
 {
     if sides.corner {

@@ -7,13 +7,13 @@ ghost use Rattle.samples.specs.IntraChroma.{predC};
 ghost use Rattle.intra_nxn.specs.IntraNxN.{pred4x4L, pred8x8L};
 ghost use Rattle.samples.specs.Marks.{permittedNxN, permitted16x16, permittedChroma, modeAnswer};
 ghost use Rattle.macroblock.specs.Square.{nearBlock};
-ghost use Rattle.macroblock.specs.inner.Blocks.{Stands};
+ghost use Rattle.macroblock.specs.inner.Blocks.{StandsIn};
 use super::beside::read_beside;
 use super::cut::Place;
 use super::cut::Sides;
 
 pub(crate) fn predict_4x4(plane: &[u8], place: Place, sides: Sides, mode: u8) -> [u8; 16]
-    requires { ⌜ Stands 4 place (length (now plane)) sides ⌝ }
+    requires { ⌜ StandsIn 4 place (length (now plane)) sides ⌝ }
     requires { ⌜ modeAnswer 8 (permittedNxN (sides .above) (sides .left) (sides .corner)) mode ≡ 0 ⌝ }
     ensures { λ r. ⌜ r ≡ blockOf 4 (pred4x4L mode (sides .above) (sides .left) (sides .corner) (nearBlock 4 place (now (plane .entry)) sides 8)) ⌝ }
 {
@@ -35,7 +35,7 @@ pub(crate) fn predict_4x4(plane: &[u8], place: Place, sides: Sides, mode: u8) ->
 }
 
 pub(crate) fn predict_8x8(plane: &[u8], place: Place, sides: Sides, mode: u8) -> [u8; 64]
-    requires { ⌜ Stands 8 place (length (now plane)) sides ⌝ }
+    requires { ⌜ StandsIn 8 place (length (now plane)) sides ⌝ }
     requires { ⌜ modeAnswer 8 (permittedNxN (sides .above) (sides .left) (sides .corner)) mode ≡ 0 ⌝ }
     ensures { λ r. ⌜ r ≡ blockOf 8 (pred8x8L mode (sides .above) (sides .left) (sides .corner) (nearBlock 8 place (now (plane .entry)) sides 16)) ⌝ }
 {
@@ -57,7 +57,7 @@ pub(crate) fn predict_8x8(plane: &[u8], place: Place, sides: Sides, mode: u8) ->
 }
 
 pub(crate) fn predict_16x16(plane: &[u8], place: Place, sides: Sides, mode: u8) -> [u8; 256]
-    requires { ⌜ Stands 16 place (length (now plane)) sides ⌝ }
+    requires { ⌜ StandsIn 16 place (length (now plane)) sides ⌝ }
     requires { ⌜ modeAnswer 3 (permitted16x16 (sides .above) (sides .left) (sides .corner)) mode ≡ 0 ⌝ }
     ensures { λ r. ⌜ r ≡ blockOf 16 (predL mode (sides .above) (sides .left) (nearBlock 16 place (now (plane .entry)) sides 16)) ⌝ }
 {
@@ -79,7 +79,7 @@ pub(crate) fn predict_16x16(plane: &[u8], place: Place, sides: Sides, mode: u8) 
 }
 
 pub(crate) fn predict_chroma(plane: &[u8], place: Place, sides: Sides, mode: u8) -> [u8; 64]
-    requires { ⌜ Stands 8 place (length (now plane)) sides ⌝ }
+    requires { ⌜ StandsIn 8 place (length (now plane)) sides ⌝ }
     requires { ⌜ modeAnswer 3 (permittedChroma (sides .above) (sides .left) (sides .corner)) mode ≡ 0 ⌝ }
     ensures { λ r. ⌜ r ≡ blockOf 8 (predC mode (sides .above) (sides .left) (nearBlock 8 place (now (plane .entry)) sides 8)) ⌝ }
 {

@@ -51,16 +51,19 @@ pub record SidesIn (side : ℕ) (p : Place) (sides : Sides) : Type 0 where
   pub on-corner : sides .corner ≡ true → (0 < p .row) × (0 < p .column)
   pub on-above-right : sides .«above_right» ≡ true → (0 < p .row) × (p .column * side + side + side ≤ p .stride)
 
-pub record Stands (side : ℕ) (p : Place) (n : ℕ) (sides : Sides) : Type 0 where
+pub record StandsIn (side : ℕ) (p : Place) (n : ℕ) (sides : Sides) : Type 0 where
   pub block : BlockIn side p n
   pub beside : SidesIn side p sides
 
--- room for the samples above a block and for those left of it, filled with zeros
-pub record Blank (side : ℕ) (top left : List ℕ) : Type 0 where
+-- room for the samples above a block, and for those left of it too, filled with zeros
+pub record BlankTop (side : ℕ) (top : List ℕ) : Type 0 where
   pub least : side ≤ length top
   pub most : length top ≤ 2 * side
-  pub top-zeros : top ≡ replicate (length top) 0
-  pub left-zeros : left ≡ replicate side 0
+  pub zeros : top ≡ replicate (length top) 0
+
+pub record Blank (side : ℕ) (top left : List ℕ) : Type 0 where
+  pub above : BlankTop side top
+  pub zeros : left ≡ replicate side 0
 
 -- luma block k's mode, as a predictor answers it: 0 where it is known and permitted where it stands
 abbrev pub modeFine : ℕ → List ℕ → (Side → Bool) → ℕ → ℕ
@@ -68,14 +71,14 @@ modeFine kind modes marks k = modeAnswer (lastMode kind) (permittedFor kind (sid
 
 -- a luma square stands in its plane, its modes are fine, and its lists have their lengths
 pub record LumaReady (kind : ℕ) (p : Place) (n : ℕ) (marks : Side → Bool) (modes : List ℕ) (residuals : List ℤ) : Type 0 where
-  pub stands : Stands 16 p n (squareSides marks)
+  pub stands : StandsIn 16 p n (squareSides marks)
   pub fine : (k : ℕ) → k < used kind → modeFine kind modes marks k ≡ 0
   pub sixteen : length modes ≡ 16
   pub all : length residuals ≡ 384
 
 -- the same of a chroma square, whose residuals are those of the blocks from `base` on
 pub record ChromaReady (mode base : ℕ) (p : Place) (n : ℕ) (marks : Side → Bool) (residuals : List ℤ) : Type 0 where
-  pub stands : Stands 8 p n (squareSides marks)
+  pub stands : StandsIn 8 p n (squareSides marks)
   pub fine : modeAnswer 3 (permittedChroma (marks B) (marks A) (marks D)) mode ≡ 0
   pub all : length residuals ≡ 384
   pub four : base + 4 ≤ 24

@@ -50,7 +50,7 @@ copy-requires-2 c κs =
     let t = p .before .before .before .before .before .before in
     let u = t .before .before .before in
     let l = long p in
-    (omega (arith, u .pre .1 .0), omega arith, simp (length-take, length-drop) (omega (arith, over t .next (d .if2 .taken), u .pre .1 .1)))
+    (omega (arith, u .pre .1 .least), omega arith, simp (length-take, length-drop) (omega (arith, over t .next (d .if2 .taken), u .pre .1 .most)))
 
 shared-slice-read-fill : tie.Need-shared-slice-read-fill
 shared-slice-read-fill c = let t = c .before .before .before .before .before .before .before .before .before .before in omega (arith, over t .block, t .before .before .before .pre .0 .block .some)
@@ -78,8 +78,8 @@ returns c =
     let z = a .place .column * a .q in
     table-there _ _ 0 _ _ (t .if1 .taken)
     (stretches-are (a .q) _ _ _ (a .out .now) _ _ (p₁ .copy .ensures) (p₂ .copy2 .ensures) (λ i h _. first t i h)
-    (λ i k h. part-at 0 (a .plane .now) (line + z) (length (a .plane .now) - (line + z)) i (omega (arith, over t .next (d .if2 .taken), u .pre .1 .1))
-    ∙ ap (λ n. getD (a .plane .now) n 0) (reach-right line z (a .q) i (a .sides .«above_right») (d .if2 .taken) (omega (arith, u .pre .1 .1)))))
+    (λ i k h. part-at 0 (a .plane .now) (line + z) (length (a .plane .now) - (line + z)) i (omega (arith, over t .next (d .if2 .taken), u .pre .1 .most))
+    ∙ ap (λ n. getD (a .plane .now) n 0) (reach-right line z (a .q) i (a .sides .«above_right») (d .if2 .taken) (omega (arith, u .pre .1 .most)))))
 
 returns-2 : tie.Need-returns-2
 unfolding aboveOf
@@ -97,7 +97,7 @@ returns-2 c =
 
 returns-3 : tie.Need-returns-3
 unfolding aboveOf
-returns-3 c = let u = c .before .before .before in table-absent (length (u .args .out .now)) _ 0 (u .args .sides .above) _ (c .if1 .left) (u .pre .1 .2)
+returns-3 c = let u = c .before .before .before in table-absent (length (u .args .out .now)) _ 0 (u .args .sides .above) _ (c .if1 .left) (u .pre .1 .zeros)
 
 pub above-of-spec : {M : Type 1} → statement M
 above-of-spec =

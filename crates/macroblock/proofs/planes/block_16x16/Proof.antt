@@ -7,8 +7,8 @@ use Rattle.samples.specs.Marks.{permitted16x16, modeAnswer}
 use Rattle.maps.specs.Neighbours.{marksOf}
 use Rattle.macroblock.specs.Cut.{whole}
 use Rattle.macroblock.specs.Kinds.{predFor, residualL}
-use Rattle.macroblock.specs.inner.Blocks.{Stands, inPieces}
-use Rattle.macroblock.proofs.Drawn.{drawn, whole-sides, whole-place}
+use Rattle.macroblock.specs.inner.Blocks.{StandsIn, inPieces}
+use Rattle.macroblock.proofs.Drawn.{part-drawn, whole-sides, whole-place}
 use Rattle.macroblock.proofs.Scan.{scan-4}
 use Rattle.macroblock.proofs.Sums.{pieces-transformed}
 use borrow.Author.Needs.{needs}
@@ -21,7 +21,7 @@ predict-16x16-requires c κs =
     let u = s .before .before .before in
     let a = u .args in
     let e = sym (s .square-sides .ensures) in (
-      subst (Stands 16 (a .place) (length (a .plane .now))) e (u .pre .stands),
+      subst (StandsIn 16 (a .place) (length (a .plane .now))) e (u .pre .stands),
       subst (λ s. modeAnswer 3 (permitted16x16 (s .above) (s .left) (s .corner)) (getD (a .modes .now) 0 0) ≡ 0) (sym (whole-sides (marksOf (a .marks))) ∙ e) (u .pre .fine 0 (omega arith)),
     )
 
@@ -36,7 +36,7 @@ returns c numbers T =
     let d = p .before .before .before in
     let s = d .before .before .before in
     let a = s .before .before .before .args in
-    drawn (whole 16) (λ k. predFor 2 (getD (a .modes .now) k 0)) (residualL 2 numbers) (a .place) (marksOf (a .marks)) 0 (omega arith) (whole-place (a .place)) (s .square-sides .ensures ∙ whole-sides (marksOf (a .marks)))
+    part-drawn (whole 16) (λ k. predFor 2 (getD (a .modes .now) k 0)) (residualL 2 numbers) (a .place) (marksOf (a .marks)) 0 (omega arith) (whole-place (a .place)) (s .square-sides .ensures ∙ whole-sides (marksOf (a .marks)))
     (λ x y. y * 16 + x) (inPieces (a .residuals .now) 0) (a .plane .now) (d .predict-16x16 .ensures) (λ x y. refl) (pieces-transformed 4 0 scan-4 (omega arith) (omega arith) T) (p .put-pieces .ensures)
 
 pub block-16x16-spec : {M : Type 1} → statement M

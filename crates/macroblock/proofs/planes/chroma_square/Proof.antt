@@ -10,8 +10,8 @@ use Rattle.maps.specs.Neighbours.{marksOf}
 use Rattle.macroblock.specs.Cut.{whole}
 use Rattle.macroblock.specs.Kinds.{residualIn}
 use Rattle.macroblock.specs.Square.{placeAt}
-use Rattle.macroblock.specs.inner.Blocks.{Stands, inPieces}
-use Rattle.macroblock.proofs.Drawn.{drawn, whole-sides, whole-place}
+use Rattle.macroblock.specs.inner.Blocks.{StandsIn, inPieces}
+use Rattle.macroblock.proofs.Drawn.{part-drawn, whole-sides, whole-place}
 use Rattle.macroblock.proofs.Scan.{scan-2}
 use Rattle.macroblock.proofs.Sums.{pieces-transformed}
 use borrow.Author.Needs.{needs}
@@ -24,7 +24,7 @@ predict-chroma-requires c κs =
     let u = s .before .before in
     let a = u .args in
     let e = sym (s .square-sides .ensures) in (
-      subst (Stands 8 (placeAt (a .stride) (a .y) (a .x)) (length (a .plane .now))) e (u .pre .stands),
+      subst (StandsIn 8 (placeAt (a .stride) (a .y) (a .x)) (length (a .plane .now))) e (u .pre .stands),
       subst (λ s. modeAnswer 3 (permittedChroma (s .above) (s .left) (s .corner)) (a .mode) ≡ 0) e (u .pre .fine),
     )
 
@@ -42,7 +42,7 @@ returns c first numbers low T =
     let u = s .before .before in
     let a = u .args in
     let at = placeAt (a .stride) (a .y) (a .x) in
-    drawn (whole 8) (λ k s. predC (a .mode) (s .above) (s .left)) (λ k. residualIn numbers (a .base)) at (marksOf (a .marks)) 0 (omega arith) (whole-place at) (s .square-sides .ensures ∙ whole-sides (marksOf (a .marks)))
+    part-drawn (whole 8) (λ k s. predC (a .mode) (s .above) (s .left)) (λ k. residualIn numbers (a .base)) at (marksOf (a .marks)) 0 (omega arith) (whole-place at) (s .square-sides .ensures ∙ whole-sides (marksOf (a .marks)))
     (λ x y. y * 8 + x) (inPieces (a .residuals .now) (a .base)) (a .plane .now) (d .predict-chroma .ensures) (λ x y. refl) (pieces-transformed 2 (a .base) scan-2 low (omega (arith, u .pre .four)) T) (p .put-pieces .ensures)
 
 pub chroma-square-spec : {M : Type 1} → statement M
