@@ -85,7 +85,8 @@ fn luma_block(
 )
     requires { ⌜ LumaReady kind place (length (now plane)) (marksOf marks) (now modes) (now residuals) × (k < used kind) ⌝ }
     ensures { λ _. ⌜ ((numbers : List ℤ) → Transformed (firstFor kind) numbers (now (residuals .entry)) → now (plane .exit)
-        ≡ part (cutFor kind) (lumaRule kind (now (modes .entry)) numbers) (place .stride) (place .column) (place .row) (marksOf marks) k (now (plane .entry))) ⌝ }
+        ≡ part (cutFor kind) (lumaRule kind (now (modes .entry)) numbers) (place .stride) (place .column) (place .row) (marksOf marks) k
+        (now (plane .entry))) ⌝ }
 {
     if kind == 0 {
         block_4x4(plane, place, marks, modes, residuals, k);
