@@ -87,18 +87,5 @@ returns-6 c kind chroma =
 
 pub refuse-spec : {M : Type 1} → statement M
 refuse-spec =
-    tie.close
-    (tie.spec
-    (λ c κs. search needs)
-    returns
-    room-ok-requires
-    returns-2
-    (λ c κs. search needs)
-    returns-3
-    (λ c κs. search needs)
-    returns-4
-    mul-here
-    add-here
-    (λ c κs. search needs)
-    returns-5
-    returns-6)
+    tie.close (tie.spec (λ c κs. search needs) returns room-ok-requires returns-2 (λ c κs. search needs) returns-3 (λ c κs. search needs) returns-4
+    mul-here add-here (λ c κs. search needs) returns-5 returns-6)

@@ -10,9 +10,4 @@ returns-2 : tie.Need-returns-2
 returns-2 c = sym (ap (λ b. eqb b 1) (List·getD-eq-default (c .before .args .done .now) 0 (c .if1 .left)))
 
 pub is-done-spec : {M : Type 1} → statement M
-is-done-spec =
-    tie.close
-    (tie.spec
-    (λ c. search needs)
-    (λ c. search needs)
-    returns-2)
+is-done-spec = tie.close (tie.spec (λ c. search needs) (λ c. search needs) returns-2)

@@ -19,11 +19,4 @@ returns : tie.Need-returns
 returns c = rw (c .before .if1 .taken) (c .is-done .ensures)
 
 pub settled-spec : {M : Type 1} → statement M
-settled-spec =
-    tie.close
-    (tie.spec
-    mul-is-done
-    add-is-done
-    (λ c κs. search needs)
-    returns
-    (λ c. search needs))
+settled-spec = tie.close (tie.spec mul-is-done add-is-done (λ c κs. search needs) returns (λ c. search needs))

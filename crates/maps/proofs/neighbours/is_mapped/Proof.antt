@@ -14,12 +14,4 @@ unfolding mapped
 returns c = cc
 
 pub is-mapped-spec : {M : Type 1} → statement M
-is-mapped-spec =
-    tie.close
-    (tie.spec
-    mul-total
-    (λ c κs. search needs)
-    (λ c κs. search needs)
-    (λ c κs. search needs)
-    (λ c κs. search needs)
-    returns)
+is-mapped-spec = tie.close (tie.spec mul-total (λ c κs. search needs) (λ c κs. search needs) (λ c κs. search needs) (λ c κs. search needs) returns)

@@ -36,15 +36,5 @@ returns c = λ i k. each k i
 
 pub marks-inside-spec : {M : Type 1} → statement M
 marks-inside-spec =
-    tie.close
-    (tie.spec
-    (λ c. search needs)
-    (λ c. search needs)
-    same-slice-requires
-    same-slice-requires-2
-    (λ c. search needs)
-    (λ c. search needs)
-    same-slice-requires-3
-    (λ c. search needs)
-    same-slice-requires-4
-    returns)
+    tie.close (tie.spec (λ c. search needs) (λ c. search needs) same-slice-requires same-slice-requires-2 (λ c. search needs) (λ c. search needs)
+    same-slice-requires-3 (λ c. search needs) same-slice-requires-4 returns)

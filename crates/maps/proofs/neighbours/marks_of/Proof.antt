@@ -39,10 +39,4 @@ returns-2 c =
     c .marks-inside .ensures ∙ ap (λ b k. b && available (a .w) (a .slices .now) (a .x) (a .y) k) (sym (ok (c .before)))
 
 pub marks-of-spec : {M : Type 1} → statement M
-marks-of-spec =
-    tie.close
-    (tie.spec
-    (λ c κs. search needs)
-    returns
-    marks-inside-requires
-    returns-2)
+marks-of-spec = tie.close (tie.spec (λ c κs. search needs) returns marks-inside-requires returns-2)

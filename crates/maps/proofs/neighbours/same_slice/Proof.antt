@@ -27,13 +27,4 @@ returns-3 c = rw (row (c .before .before .before), column (c .before .before))
 
 pub same-slice-spec : {M : Type 1} → statement M
 same-slice-spec =
-    tie.close
-    (tie.spec
-    returns
-    returns-2
-    sub-there
-    (λ c. search needs)
-    (λ c. search needs)
-    (λ c. search needs)
-    (λ c. search needs)
-    returns-3)
+    tie.close (tie.spec returns returns-2 sub-there (λ c. search needs) (λ c. search needs) (λ c. search needs) (λ c. search needs) returns-3)

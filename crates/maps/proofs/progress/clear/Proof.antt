@@ -42,15 +42,4 @@ returns c =
     c .before .loop .inv .2 ∙ rw e (rw (drop-length d) (append-nil (replicate (length d) 0)))
 
 pub clear-spec : {M : Type 1} → statement M
-clear-spec =
-    tie.close
-    (tie.spec
-    Inv-loop
-    μ-loop
-    loop-holds
-    slice-write-done
-    add-i
-    loop-less
-    loop-again
-    same-length
-    returns)
+clear-spec = tie.close (tie.spec Inv-loop μ-loop loop-holds slice-write-done add-i loop-less loop-again same-length returns)

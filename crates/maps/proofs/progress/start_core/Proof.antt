@@ -30,13 +30,4 @@ returns-3 c =
     (rw (ok1 (c .before .before .before .before .before), eq-eqb _ _ (c .before .before .before .before .if2 .left)), refl, c .before .before .clear .ensures)
 
 pub start-core-spec : {M : Type 1} → statement M
-start-core-spec =
-    tie.close
-    (tie.spec
-    (λ c κs. search needs)
-    returns
-    mul-if2
-    returns-2
-    (λ c κs. search needs)
-    (λ c. search needs)
-    returns-3)
+start-core-spec = tie.close (tie.spec (λ c κs. search needs) returns mul-if2 returns-2 (λ c κs. search needs) (λ c. search needs) returns-3)

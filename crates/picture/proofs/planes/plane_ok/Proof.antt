@@ -46,6 +46,4 @@ unfolding planeOk
 returns-3 c = simp (le-leb _ _ (c .before .if1 .left), le-leb _ _ (c .if2 .left))
 
 pub plane-ok-spec : {M : Type 1} → statement M
-plane-ok-spec =
-    tie.close
-    (tie.spec mul-width mul-last sub-last returns returns-2 mul-result add-result returns-3)
+plane-ok-spec = tie.close (tie.spec mul-width mul-last sub-last returns returns-2 mul-result add-result returns-3)
