@@ -19,6 +19,7 @@ mod predict; // 8.3: predictions
 mod put; // 8.5.14: sums
 mod residuals; // 8.5.1, 8.5.2 and 8.5.4: residuals, and refusal 8
 mod rules; // refusals 2, 6 and 7
+pub mod scan_xy; // 6.4.3: the order of the luma blocks
 
 // A macroblock: its kind, 0 for 4x4, 1 for 8x8 and 2 for 16x16, its luma modes, its chroma mode, and 256 numbers for luma, 64 for Cb and 64 for Cr.
 pub struct Record {
