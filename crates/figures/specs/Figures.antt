@@ -1,6 +1,6 @@
 -- The worked figures that the rules mark to be proved: one table, one statement, over the definitions.
 use mathlib.Core.Path.{_≡_, refl}
-use mathlib.Core.Bool.{Bool, true, false}
+use mathlib.Core.Bool.{Bool, true, false, _&&_}
 use mathlib.Core.List.{List, [], _∷_, _++_, map}
 use Prim.Native.Nat.{ℕ}
 use lib.IntN.{ℤ, pos}
@@ -10,11 +10,13 @@ use Rattle.laws.specs.Table.{table, sumOf, sumZ}
 use Rattle.residual.specs.Clip.{Clip1}
 use Rattle.samples.specs.Intra16x16.{predL}
 use Rattle.samples.specs.IntraChroma.{regionDc, predC}
-use Rattle.intra_nxn.specs.IntraNxN.{downLeft, downRight, verticalRight, horizontalDown, verticalLeft, horizontalUp, predNxN, pred4x4L, filteredSide, filteredCorner, filtered}
+use Rattle.intra_nxn.specs.IntraNxN.{predNxN, pred4x4L, filteredSide, filteredCorner, filtered}
+use Rattle.intra_nxn.specs.IntraNxN.{downLeft, downRight, verticalRight, horizontalDown, verticalLeft, horizontalUp}
 use Rattle.residual.specs.Inverse.{oneDimensional, rowOf, columnOf, rounded, inverse4x4}
 use Rattle.samples.specs.Near.{Near, near, mean, dc}
 use Rattle.samples.specs.PlaneMode.{slope, ramp, plane}
 use Rattle.residual.specs.Qp.{QPc, table815}
+use Rattle.macroblock.specs.Square.{aboveOf, leftOf, cornerOf, around}
 
 -- what the definitions give, and what the rules say that they give
 pub record Figure : Type 0 where
@@ -29,19 +31,32 @@ infix 70 _leaves_
 abbrev _leaves_ : List ℤ → List ℤ → Figure
 _leaves_ has is = record { has = has; is = is }
 
--- above 10, 20, .., 80, left 12, 24, 36, 48, corner 6; and the same with above-right absent, so that the last sample above is repeated
-abbrev around : List ℕ → Near
-around right = near ((10 ∷ 20 ∷ 30 ∷ 40 ∷ []) ++ right) (12 ∷ 24 ∷ 36 ∷ 48 ∷ []) 6
+-- a plane with stride 12 around the 4x4 block in row 1 and column 1 of blocks: above 10, 20, .., 80, left 12, 24, 36, 48, corner 6
+abbrev row : List ℕ → List ℕ
+row last = replicate 3 0 ++ last
+
+abbrev samples : List ℕ
+samples =
+    replicate 36 0 ++ row (6 ∷ 10 ∷ 20 ∷ 30 ∷ 40 ∷ 50 ∷ 60 ∷ 70 ∷ 80 ∷ [])
+    ++ row (12 ∷ replicate 8 0) ++ row (24 ∷ replicate 8 0) ++ row (36 ∷ replicate 8 0) ++ row (48 ∷ replicate 8 0)
+
+-- what the block reads there where above-right is marked or not; where it is not, the last sample above is repeated
+abbrev beside : Bool → Near
+beside right = around 4 12 1 1 samples 8 true true true right
 
 abbrev full : Near
-full = around (50 ∷ 60 ∷ 70 ∷ 80 ∷ [])
+full = beside true
 
 abbrev cut : Near
-cut = around (40 ∷ 40 ∷ 40 ∷ 40 ∷ [])
+cut = beside false
 
 -- the 4x4 sample of a mode in column x and row y
 abbrev sample : ℕ → Near → ℕ → ℕ → ℕ
 sample mode p x y = pred4x4L mode true true true p x y
+
+-- DC from the marks of above and left
+abbrev flat : Bool → Bool → ℕ
+flat above left = pred4x4L 2 above left (above && left) full 0 0
 
 -- above 0 four times and 100 four times, left 40 and 80
 abbrev chroma : ℕ → ℕ → ℕ
@@ -55,8 +70,9 @@ abbrev lone : ℤ → List ℤ
 lone v = set (replicate 16 (pos 0)) 0 v
 
 unfoldable pub figures : List Figure
+unfolding table sumOf sumZ aboveOf leftOf cornerOf near mean dc predC regionDc predL plane ramp slope inverse4x4 columnOf rowOf oneDimensional rounded
 figures =
-    (pred4x4L 2 true true true full 0 0 ∷ pred4x4L 2 true false false full 0 0 ∷ pred4x4L 2 false true false full 0 0 ∷ pred4x4L 2 false false false full 0 0 ∷ []) gives (28 ∷ 25 ∷ 30 ∷ 128 ∷ [])
+    (flat true true ∷ flat true false ∷ flat false true ∷ flat false false ∷ []) gives (28 ∷ 25 ∷ 30 ∷ 128 ∷ [])
     ∷ (sample 3 full 0 0 ∷ sample 3 full 3 3 ∷ sample 3 cut 3 3 ∷ []) gives (20 ∷ 78 ∷ 40 ∷ [])
     ∷ (sample 8 full 0 0 ∷ sample 8 full 1 0 ∷ sample 8 full 1 2 ∷ sample 8 full 3 3 ∷ []) gives (18 ∷ 24 ∷ 45 ∷ 48 ∷ [])
     ∷ (sample 5 full 0 0 ∷ sample 5 full 0 1 ∷ sample 5 full 0 2 ∷ sample 6 full 0 0 ∷ []) gives (8 ∷ 9 ∷ 14 ∷ 9 ∷ [])
@@ -70,5 +86,5 @@ figures =
     ∷ []
 
 pub figures-hold : map (λ f. f .has) figures ≡ map (λ f. f .is) figures
-unfolding figures table sumOf sumZ near mean dc predNxN downLeft downRight verticalRight horizontalDown verticalLeft horizontalUp filteredSide filteredCorner filtered predC regionDc predL plane ramp slope Clip1 inverse4x4 columnOf rowOf oneDimensional rounded QPc table815
+unfolding figures predNxN downLeft downRight verticalRight horizontalDown verticalLeft horizontalUp filteredSide filteredCorner filtered Clip1 QPc table815
 figures-hold = refl

@@ -1,6 +1,7 @@
 // Runs the limits that the rules name and that are not proved as figures: strides, offsets, lengths and numbers of the block calls, sizes, maps and
 // records of the picture calls, and a picture rebuilt in two orders. Each line says what was called and what came of it.
 mod blocks; // calls on one block
+mod offer; // a record to a picture
 mod pictures; // calls on a picture
 mod shuffled; // a picture in two orders
 mod tell;

@@ -1,8 +1,10 @@
 // The limits of the picture calls, a dialogue of accepted and refused calls, and a picture rebuilt out of order. Pictures are 3 by 2 macroblocks where
 // nothing else is said, in planes with padding beside and after the rows.
+use super::offer::offer;
 use super::tell::tell;
 use macroblock::Record;
-use picture::Progress;
+use maps::progress::Progress;
+use maps::progress::start_core;
 
 // A record of a kind with DC everywhere: permitted wherever it stands.
 fn flat(kind: u8) -> Record {
@@ -62,17 +64,17 @@ fn with_number(r: Record, v: i32) -> Record {
 // Starting a picture with 8160, 6 and 5 bytes of a done map.
 fn start_8160(w: u32, h: u32) -> u32 {
     let mut done = [7u8; 8160];
-    picture::start_core(w, h, &mut done, Progress { count: 9, last: 9 }).answer
+    start_core(w, h, &mut done, Progress { count: 9, last: 9 }).answer
 }
 
 fn start_6(w: u32, h: u32) -> u32 {
     let mut done = [7u8; 6];
-    picture::start_core(w, h, &mut done, Progress { count: 9, last: 9 }).answer
+    start_core(w, h, &mut done, Progress { count: 9, last: 9 }).answer
 }
 
 fn start_5(w: u32, h: u32) -> u32 {
     let mut done = [7u8; 5];
-    picture::start_core(w, h, &mut done, Progress { count: 9, last: 9 }).answer
+    start_core(w, h, &mut done, Progress { count: 9, last: 9 }).answer
 }
 
 pub(crate) fn starts() {
@@ -92,7 +94,7 @@ fn in_120(w: u32, luma_stride: usize, chroma_stride: usize) -> u32 {
     let mut done = [0u8; 120];
     let slices = [0u16; 120];
     let p = Progress { count: 0, last: 0 };
-    picture::rebuild_core(
+    offer(
         w,
         1,
         0,
@@ -117,7 +119,7 @@ fn in_3(x: u32, luma_stride: usize, chroma_stride: usize) -> u32 {
     let mut done = [0u8; 3];
     let slices = [0u16; 3];
     let p = Progress { count: 0, last: 0 };
-    picture::rebuild_core(
+    offer(
         3,
         1,
         x,
@@ -151,7 +153,7 @@ fn at(x: u32, y: u32, done: [u8; 6], slices: [u16; 6], count: u32, record: Recor
     let mut cr = [0u8; 440];
     let mut map = done;
     let p = Progress { count, last: 0 };
-    picture::rebuild_core(
+    offer(
         3,
         2,
         x,

@@ -1,10 +1,12 @@
 // A picture of 3 by 2 macroblocks in two slices, rebuilt in raster order and in a shuffled order that comes round six times, over planes that held
 // different bytes. Luma is 48 by 32 with stride 52, chroma 24 by 16 with stride 27; every other byte is padding.
 ghost use Prim.Native.Nat.{_<_};
+use super::offer::offer;
 use super::tell::tell;
 use libc::STDOUT_FILENO;
 use macroblock::Record;
-use picture::Progress;
+use maps::progress::Progress;
+use maps::progress::start_core;
 
 const SLICES: [u16; 6] = [0, 0, 1, 0, 0, 1];
 
@@ -152,10 +154,10 @@ fn rebuild_all(
         not_ready: 0,
         other: 0,
     };
-    let mut progress = picture::start_core(3, 2, done, Progress { count: 9, last: 9 }).progress;
+    let mut progress = start_core(3, 2, done, Progress { count: 9, last: 9 }).progress;
     for i in 0..36 {
         let a = order[i % 6];
-        let r = picture::rebuild_core(
+        let r = offer(
             3,
             2,
             a % 3,

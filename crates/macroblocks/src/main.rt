@@ -1,5 +1,6 @@
 // Replays a fixed list of macroblocks that the Rust's routines rebuilt (README.md says how it was made): each line of the output is a group of
-// cases, with their number and in how many of them the answer or a byte of the planes is another one.
+// cases, with their number and in how many of them the answer or a byte of the planes is another one. The last group holds a wrong byte on purpose:
+// its line says that one case differs.
 mod case;
 
 fn group(name: &[u8]) {
@@ -27,4 +28,5 @@ fn main() {
     group(b"refused 6");
     group(b"refused 7");
     group(b"refused 8");
+    group(b"a wrong byte, on purpose");
 }

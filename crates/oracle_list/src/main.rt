@@ -1,5 +1,6 @@
 // Replays a fixed list of the Rust's answers (README.md says how it was made): each part of the list is a routine's, and each line of the
-// output says how many cases it had and in how many of them the port's answer is another one.
+// output says how many cases it had and in how many of them the port's answer is another one. The last two parts hold a wrong byte and a wrong number
+// on purpose: their lines say that one case differs.
 ghost use Prim.Native.Nat.{_≤_};
 
 mod case;
@@ -79,4 +80,6 @@ fn main() {
     part(14, 213, b"reconstruct_4x4_into");
     part(15, 168, b"reconstruct_4x4_dc_into");
     part(16, 213, b"add_residual_4x4_into");
+    part(4, 32, b"a wrong byte, on purpose");
+    part(10, 97, b"a wrong number, on purpose");
 }

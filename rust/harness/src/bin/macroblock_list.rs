@@ -1,6 +1,7 @@
 //! Writes the fixed list of macroblocks that the Rust's routines rebuilt to standard output: for each group, in the order of
 //! crates/macroblocks/src/main.rt, the number of its cases in two bytes, and the cases as the program there reads them. Refusal 2, which
-//! the Rust does not know, is given here; every other answer and every byte after a call is the driver's over those routines.
+//! the Rust does not know, is given here; every other answer and every byte after a call is the driver's over those routines. The last
+//! group is wrong on purpose, so that the program shows that it sees a difference.
 use harness::list::{put, List};
 use harness::{good_record, Random, Record};
 use oracle::driver::{self, Near, Plane};
@@ -231,6 +232,14 @@ fn refused(list: &mut List, random: &mut Random, answer: u32, calls: &[Spoilt]) 
     });
 }
 
+/// An accepted macroblock whose last byte after the call is not the driver's.
+fn wrong(list: &mut List, random: &mut Random) {
+    list.part(1, |_, out| {
+        Case::new(random, (1, 1, A | B | C | D), 0).list(0, out);
+        *out.last_mut().unwrap() ^= 1;
+    });
+}
+
 fn main() {
     let mut random = Random::new(384);
     let mut list = List::default();
@@ -241,5 +250,6 @@ fn main() {
     refused(&mut list, &mut random, 6, &UNKNOWN);
     refused(&mut list, &mut random, 7, &FORBIDDEN);
     refused(&mut list, &mut random, 8, &TOO_FAR);
+    wrong(&mut list, &mut random);
     list.print();
 }

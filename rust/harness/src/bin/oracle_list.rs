@@ -1,10 +1,35 @@
 //! Writes the fixed list of the Rust's answers to standard output: for each routine, in the order of crates/oracle_list/src/main.rt, the
 //! number of its cases in two bytes, and the cases as the program there reads them. A refused case has the rules' answer and leaves zeros,
-//! or the buffer as it was.
+//! or the buffer as it was. The last two parts are wrong on purpose, so that the program shows that it sees a difference.
 use harness::list::{put, List};
 use harness::Random;
 use oracle::predict;
 use oracle::rules::{self, Marks, Square};
+
+/// A block whose last byte is one more than the Rust's.
+fn wrong_byte(list: &mut List) {
+    list.part(1, |_, out| {
+        let (top, left) = ([10, 20, 30, 40, 50, 60, 70, 80], [12, 24, 36, 48]);
+        let mut block = rules::intra4x4_pred(8, Marks { above: true, left: true, corner: true }, &top, &left, 6).unwrap();
+        block[15] += 1;
+        out.extend([8, 7, 6, 0]);
+        out.extend(top);
+        out.extend(left);
+        out.extend(block);
+    });
+}
+
+/// A residual whose last number is one more than the Rust's.
+fn wrong_number(list: &mut List) {
+    list.part(1, |_, out| {
+        let deq = std::array::from_fn(|k| 64 * k as i32);
+        let mut residual = rules::inverse_4x4(&deq).unwrap();
+        residual[15] += 1;
+        out.push(0);
+        put(out, &deq);
+        put(out, &residual);
+    });
+}
 
 /// Numbers, of which one in some lists is just out of range.
 fn numbers<const N: usize>(random: &mut Random) -> [i32; N] {
@@ -141,5 +166,7 @@ fn main() {
     into_plane::<16>(&mut list, random, 200, rules::reconstruct_4x4_into);
     into_plane::<1>(&mut list, random, 200, |first, pred, from, rec, to| rules::reconstruct_4x4_dc_into(first[0], pred, from, rec, to));
     into_plane::<16>(&mut list, random, 200, rules::add_residual_4x4_into);
+    wrong_byte(&mut list);
+    wrong_number(&mut list);
     list.print();
 }

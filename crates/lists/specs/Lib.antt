@@ -1,0 +1,2 @@
+-- What the bytes of a list of answers say.
+pub mod Numbers
