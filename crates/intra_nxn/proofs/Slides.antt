@@ -1,7 +1,7 @@
 -- The rows of an 8x8 block are windows of lines of means: what stands in the lines is what Places says of the run and its means in one list.
 -- Assumes nothing.
 use mathlib.Core.Path.{_≡_, refl, sym, ap, _∙_}
-use mathlib.Core.Bool.{cond}
+use mathlib.Core.Bool.{true, false, cond}
 use mathlib.Core.List.{List}
 use Prim.Native.Nat.{ℕ, _+_, _-_, _*_, _/_, _%_, _≤_, _<_}
 use native.Mathlib.Decide.{decLt}
@@ -18,7 +18,7 @@ use Rattle.laws.proofs.Tables.{length-table}
 use Rattle.laws.proofs.Tests.{choose}
 use Rattle.intra_nxn.specs.IntraNxN.{downLeft, downRight, verticalRight, horizontalDown, verticalLeft, horizontalUp}
 use Rattle.samples.specs.Near.{Near}
-use Rattle.intra_nxn.specs.inner.Run.{Run, Means, Line, Twin, slid, meanRound, meanFrom, pairs}
+use Rattle.intra_nxn.specs.inner.Run.{Run, Means, Line, slid, meanRound, meanFrom, meanIn, pairs}
 use Rattle.intra_nxn.proofs.Places.{at-downLeft, at-downRight, at-verticalRight, at-horizontalDown, at-verticalLeft, at-horizontalUp}
 use Rattle.intra_nxn.proofs.Runs.{Filling, run-kept, means-there}
 
@@ -56,26 +56,6 @@ past-all m n f g h l q rest = record { size = q .size; is = λ j b. go j b (decL
     go : (j : ℕ) → j < n → Dec (j < m) → getD l j 0 ≡ pairs m f g h j
     go j b (yes s) = q .is j s
     go j b (no s) = rest j (omega arith) b ∙ rw (le-ltb j m (omega arith))
-
--- one place of either of two lines
-pub twin-none : (f g : ℕ → ℕ) (l : List ℕ) → length l ≡ 32 → Twin 0 f g l
-twin-none f g l e = record { size = e; even = λ j h. absurd (omega arith); odd = λ j h. absurd (omega arith) }
-
-pub twin-more : (k : ℕ) (f g : ℕ → ℕ) (l : List ℕ) {u v : ℕ} → k < 16 → Twin k f g l → u ≡ f k → v ≡ g k → Twin (k + 1) f g (set (set l k u) (16 + k) v)
-twin-more k f g l {u} {v} h q eu ev =
-    record {
-      size = simp length-set (q .size);
-      even = below-more (λ j. getD l₂ j 0 ≡ f j) k (λ j b. other j (omega arith) (omega arith) ∙ q .even j b)
-          (getD-set-other (set l k u) (16 + k) k v 0 (omega arith) ∙ getD-set-same l k u 0 (omega (arith, q .size)) ∙ eu);
-      odd = below-more (λ j. getD l₂ (16 + j) 0 ≡ g j) k (λ j b. other (16 + j) (omega arith) (omega arith) ∙ q .odd j b)
-          (getD-set-same (set l k u) (16 + k) v 0 (simp length-set (omega (arith, q .size))) ∙ ev);
-    }
-  where
-    l₂ : List ℕ
-    l₂ = set (set l k u) (16 + k) v
-
-    other : (j : ℕ) → (j ≡ k → ⊥) → (j ≡ 16 + k → ⊥) → getD l₂ j 0 ≡ getD l j 0
-    other j a b = getD-set-other (set l k u) (16 + k) j v 0 b ∙ getD-set-other l k j u 0 a
 
 -- ---- rows as windows
 -- row 2z from r on and row 2z + 1, by their samples
@@ -170,12 +150,13 @@ module _ (p : Near) (e : List ℕ) (run : Run 8 p e) where
           here : getD whole (18 + 2 * x - 2 * y) 0 ≡ downRight p x y
           here = at-downRight 8 p whole (omega arith) (omega arith) whole-run x y _ hx hy whole-means refl
 
-    pub is-verticalLeft : (line : List ℕ) → Twin 11 (λ j. meanFrom e (10 + j)) (λ j. meanRound e (11 + j)) line → slid line 0 line 16 1 0 x y ≡ verticalLeft p x y
-    is-verticalLeft line q =
+    pub is-verticalLeft : (even odd : List ℕ) → Line 11 (λ j. meanIn false e (10 + j)) even → Line 11 (λ j. meanIn true e (11 + j)) odd
+        → slid even 0 odd 0 1 0 x y ≡ verticalLeft p x y
+    is-verticalLeft even odd qe qo =
         let k : ℕ = 0 + 1 * (y / 2) - 0 * (y / 2) + x in
-        by-row line 0 line 16 1 0 _
-        (λ h. q .even k (omega arith) ∙ two-at (21 + 2 * x + y) (10 + k) (omega arith) (omega arith) ∙ here)
-        (λ h. ap (λ (i : ℕ). getD line i 0) (omega arith) ∙ q .odd k (omega arith) ∙ three-at (21 + 2 * x + y) (11 + k) (omega arith) (omega arith) ∙ here)
+        by-row even 0 odd 0 1 0 _
+        (λ h. qe .is k (omega arith) ∙ two-at (21 + 2 * x + y) (10 + k) (omega arith) (omega arith) ∙ here)
+        (λ h. qo .is k (omega arith) ∙ three-at (21 + 2 * x + y) (11 + k) (omega arith) (omega arith) ∙ here)
       where
         here : getD whole (21 + 2 * x + y) 0 ≡ verticalLeft p x y
         here = at-verticalLeft 8 p whole (omega arith) (omega arith) whole-run x y _ hx hy whole-means refl
@@ -192,14 +173,13 @@ module _ (p : Near) (e : List ℕ) (run : Run 8 p e) where
         stands : (i : ℕ) → (y ≤ 2 * x + 1 → i ≡ 19 + 2 * x - y) → (2 * x + 1 < y → i ≡ 20 + 4 * x - 2 * y) → getD whole i 0 ≡ verticalRight p x y
         stands i = at-verticalRight 8 p whole (omega arith) (omega arith) whole-run x y i hx hy whole-means
 
-    pub is-verticalRight : (line : List ℕ) → Twin 11 (λ j. cond (ltb j 3) (meanRound e (4 + 2 * j)) (meanFrom e (6 + j)))
-        (λ j. cond (ltb j 3) (meanRound e (3 + 2 * j)) (meanRound e (6 + j))) line → slid line 3 line 19 0 1 x y ≡ verticalRight p x y
-    is-verticalRight line q =
+    pub is-verticalRight : (even odd : List ℕ) → Line 11 (λ j. cond (ltb j 3) (meanRound e (4 + 2 * j)) (meanIn false e (6 + j))) even
+        → Line 11 (λ j. cond (ltb j 3) (meanRound e (3 + 2 * j)) (meanIn true e (6 + j))) odd → slid even 3 odd 3 0 1 x y ≡ verticalRight p x y
+    is-verticalRight even odd qe qo =
         let j : ℕ = 3 + 0 * (y / 2) - 1 * (y / 2) + x in
-        by-row line 3 line 19 0 1 _
-        (λ h. q .even j (omega arith) ∙ in-right 4 (meanFrom e) j (omega arith) (omega arith) (λ l. two-at (19 + 2 * x - y) (6 + j) (omega arith) (omega arith)))
-        (λ h. ap (λ (i : ℕ). getD line i 0) (omega arith) ∙ q .odd j (omega arith)
-        ∙ in-right 3 (meanRound e) j (omega arith) (omega arith) (λ l. three-at (19 + 2 * x - y) (6 + j) (omega arith) (omega arith)))
+        by-row even 3 odd 3 0 1 _
+        (λ h. qe .is j (omega arith) ∙ in-right 4 (meanFrom e) j (omega arith) (omega arith) (λ l. two-at (19 + 2 * x - y) (6 + j) (omega arith) (omega arith)))
+        (λ h. qo .is j (omega arith) ∙ in-right 3 (meanRound e) j (omega arith) (omega arith) (λ l. three-at (19 + 2 * x - y) (6 + j) (omega arith) (omega arith)))
 
     -- the means of two and of three in turn, where they stand in turn
     in-pairs : (m : ℕ) (f g h : ℕ → ℕ) (j v : ℕ) → (j < m → j % 2 ≡ 0 → f (j / 2) ≡ v) → (j < m → j % 2 ≡ 1 → g (j / 2) ≡ v) → (m ≤ j → h j ≡ v) → pairs m f g h j ≡ v

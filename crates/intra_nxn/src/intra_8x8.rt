@@ -11,8 +11,8 @@ ghost use Rattle.intra_nxn.specs.IntraNxN.{predNxN, pred8x8L};
 ghost use Rattle.intra_nxn.specs.inner.Run.{Run, slid};
 use super::filter::filtered_of;
 use super::lines::down_line;
-use super::lines::left_lines;
-use super::lines::right_lines;
+use super::lines::left_line;
+use super::lines::right_line;
 use super::lines::threes;
 use super::lines::up_line;
 use super::run::dc_of;
@@ -117,8 +117,9 @@ fn slant8(mode: u8, e: &[u8; 81], out: &mut [u8])
         return;
     }
     if mode < 6 {
-        let line = right_lines(e);
-        slide(&line, 3, &line, 19, 0, 1, out);
+        let even = right_line(e, 4, false);
+        let odd = right_line(e, 3, true);
+        slide(&even, 3, &odd, 3, 0, 1, out);
         return;
     }
     if mode < 7 {
@@ -127,8 +128,9 @@ fn slant8(mode: u8, e: &[u8; 81], out: &mut [u8])
         return;
     }
     if mode < 8 {
-        let line = left_lines(e);
-        slide(&line, 0, &line, 16, 1, 0, out);
+        let even = left_line(e, 10, false);
+        let odd = left_line(e, 11, true);
+        slide(&even, 0, &odd, 0, 1, 0, out);
         return;
     }
     let line = up_line(e);

@@ -2,10 +2,10 @@
 // that the compiled code takes no mean that the mode does not show.
 ghost use mathlib.Core.Path.{_≡_};
 ghost use mathlib.Core.Bool.{cond};
-ghost use Prim.Native.Nat.{_+_, _-_, _*_, _<_};
+ghost use Prim.Native.Nat.{_+_, _-_, _*_, _≤_, _<_};
 ghost use lib.Dec.{ltb};
 ghost use lib.ListN.{getD};
-ghost use Rattle.intra_nxn.specs.inner.Run.{Line, Twin, meanRound, meanFrom, pairs};
+ghost use Rattle.intra_nxn.specs.inner.Run.{Line, meanRound, meanFrom, meanIn, pairs};
 use super::run::mean2;
 use super::run::mean3;
 
@@ -20,20 +20,18 @@ pub(crate) fn threes(e: &[u8; 81]) -> [u8; 32]
     line
 }
 
-// Vertical right: every other mean of three along the left side, then along the row above the means of two in even rows and of three in odd ones. The
-// line of the even rows stands at 0 and that of the odd ones at 16.
-pub(crate) fn right_lines(e: &[u8; 81]) -> [u8; 32]
-    ensures { λ r. ⌜ Twin 11 (λ j. cond (ltb j 3) (meanRound (now (e .entry)) (4 + 2 * j)) (meanFrom (now (e .entry)) (6 + j)))
-        (λ j. cond (ltb j 3) (meanRound (now (e .entry)) (3 + 2 * j)) (meanRound (now (e .entry)) (6 + j))) r ⌝ }
+// Vertical right: every other mean of three along the left side from the given place on, then along the row above the means of two in even rows and of
+// three in odd ones.
+pub(crate) fn right_line(e: &[u8; 81], first: usize, odd: bool) -> [u8; 32]
+    requires { ⌜ first ≤ 4 ⌝ }
+    ensures { λ r. ⌜ Line 11 (λ j. cond (ltb j 3) (meanRound (now (e .entry)) (first + 2 * j)) (meanIn odd (now (e .entry)) (6 + j))) r ⌝ }
 {
     let mut line = [0u8; 32];
     for j in 0..3 {
-        line[j] = mean_round(e, 4 + 2 * j);
-        line[16 + j] = mean_round(e, 3 + 2 * j);
+        line[j] = mean_round(e, first + 2 * j);
     }
     for j in 3..11 {
-        line[j] = mean_from(e, 6 + j);
-        line[16 + j] = mean_round(e, 6 + j);
+        line[j] = mean_in(odd, e, 6 + j);
     }
     line
 }
@@ -54,14 +52,14 @@ pub(crate) fn down_line(e: &[u8; 81]) -> [u8; 32]
     line
 }
 
-// Vertical left: along the row above the means of two in even rows, at 0, and of three in odd ones, at 16.
-pub(crate) fn left_lines(e: &[u8; 81]) -> [u8; 32]
-    ensures { λ r. ⌜ Twin 11 (λ j. meanFrom (now (e .entry)) (10 + j)) (λ j. meanRound (now (e .entry)) (11 + j)) r ⌝ }
+// Vertical left: along the row above, from the given place on, the means of two in even rows and of three in odd ones.
+pub(crate) fn left_line(e: &[u8; 81], first: usize, odd: bool) -> [u8; 32]
+    requires { ⌜ first ≤ 11 ⌝ }
+    ensures { λ r. ⌜ Line 11 (λ j. meanIn odd (now (e .entry)) (first + j)) r ⌝ }
 {
     let mut line = [0u8; 32];
     for j in 0..11 {
-        line[j] = mean_from(e, 10 + j);
-        line[16 + j] = mean_round(e, 11 + j);
+        line[j] = mean_in(odd, e, first + j);
     }
     line
 }
@@ -79,7 +77,18 @@ pub(crate) fn up_line(e: &[u8; 81]) -> [u8; 32]
     line
 }
 
-// The mean of three round place 54 + k of the run, and that of two from there on.
+// The mean that an even or an odd row takes at place 54 + k of the run, the mean of three round it, and that of two from it on.
+fn mean_in(odd: bool, e: &[u8; 81], k: usize) -> u8
+    requires { ⌜ k < 26 ⌝ }
+    ensures { λ r. ⌜ r ≡ meanIn odd (now (e .entry)) k ⌝ }
+{
+    if odd {
+        mean_round(e, k)
+    } else {
+        mean_from(e, k)
+    }
+}
+
 fn mean_round(e: &[u8; 81], k: usize) -> u8
     requires { ⌜ k < 26 ⌝ }
     ensures { λ r. ⌜ r ≡ meanRound (now (e .entry)) k ⌝ }

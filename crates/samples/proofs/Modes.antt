@@ -83,21 +83,13 @@ mask s m h =
     let e : 1 * 2 ^ m % 65536 ≡ 2 ^ (1 + m) - 2 ^ m = shl-exact 1 m 16 (lit< tt) (omega arith) ∙ omega (arith, pow-add 2 1 m) in
     rw (e, and-high s 1 m) (one-bit m (s / 2 ^ m % 2) (omega arith))
 
--- a number of 16 bits has no other
-pub no-bit : (s m : ℕ) → s < 65536 → 15 < m → false ≡ eqb (bit s m) 1
-no-bit s m small far = rw (bit-above s m (lt-of-lt-of-le small (pow-mono {i = 16} far)))
-
--- the mode's bit is the test of the mode, where no mode from n on is in the set
-pub bit-is-test : (n : ℕ) (f : ℕ → Bool) → ((m : ℕ) → n ≤ m → f m ≡ false) → (m : ℕ) → eqb (bit (modeSet n f) m) 1 ≡ f m
-bit-is-test n f past m = rw (bit-of-set f n m) (go (decLt m n))
+-- the mode's bit is the test of the mode
+pub bit-is-test : (n : ℕ) (f : ℕ → Bool) (m : ℕ) → m < n → eqb (bit (modeSet n f) m) 1 ≡ f m
+bit-is-test n f m h = rw (bit-of-set f n m, lt-ltb m n h) (go (f m))
   where
-    is : (b : Bool) → eqb (cond b 1 0) 1 ≡ b
-    is true = refl
-    is false = refl
-
-    go : Dec (m < n) → eqb (cond (ltb m n && f m) 1 0) 1 ≡ f m
-    go (yes h) = rw (lt-ltb m n h) (is (f m))
-    go (no h) = rw (le-ltb m n (omega arith), past m (omega arith))
+    go : (b : Bool) → eqb (cond b 1 0) 1 ≡ b
+    go true = refl
+    go false = refl
 
 -- ---- the sets that the marks give, computed, and the modes past the last
 by-marks : (P : Bool → Bool → Bool → Type 0) → P true true true → P true true false → P true false true → P true false false
@@ -130,14 +122,14 @@ set-chroma = by-marks (λ a l c. bitOr (bitOr (bitOr 1 (cond l 2 0)) (cond a 4 0
 other : (n m k : ℕ) → n ≤ m → T (ltb k n) → eqb m k ≡ false
 other n m k h t = ne-eqb m k (omega (arith, ltb→lt k n t))
 
-pub past-NxN : (a l c : Bool) (m : ℕ) → 9 ≤ m → permittedNxN a l c m ≡ false
+pub past-NxN : (a l c : Bool) (m : ℕ) → 8 < m → permittedNxN a l c m ≡ false
 past-NxN a l c m h =
     rw (other 9 m 0 h tt, other 9 m 3 h tt, other 9 m 7 h tt, other 9 m 1 h tt, other 9 m 8 h tt, other 9 m 2 h tt, other 9 m 4 h tt, other 9 m 5 h tt, other 9 m 6 h tt)
 
-pub past-16x16 : (a l c : Bool) (m : ℕ) → 4 ≤ m → permitted16x16 a l c m ≡ false
+pub past-16x16 : (a l c : Bool) (m : ℕ) → 3 < m → permitted16x16 a l c m ≡ false
 past-16x16 a l c m h = rw (other 4 m 0 h tt, other 4 m 1 h tt, other 4 m 2 h tt, other 4 m 3 h tt)
 
-pub past-chroma : (a l c : Bool) (m : ℕ) → 4 ≤ m → permittedChroma a l c m ≡ false
+pub past-chroma : (a l c : Bool) (m : ℕ) → 3 < m → permittedChroma a l c m ≡ false
 past-chroma a l c m h = rw (other 4 m 0 h tt, other 4 m 1 h tt, other 4 m 2 h tt, other 4 m 3 h tt)
 
 -- ---- the answer of a predictor that is handed lists, and what the answer 0 says of them and of the mode

@@ -2,7 +2,7 @@
 use mathlib.Core.Path.{_≡_, refl, ap, _∙_}
 use mathlib.Core.Bool.{Bool, not, _&&_}
 use mathlib.Core.List.{List, [], _∷_, _++_}
-use Prim.Native.Nat.{ℕ, _+_, _-_, _*_, _/_, _%_, _≤_, _<_, min}
+use Prim.Native.Nat.{ℕ, _+_, _-_, _*_, _/_, _%_, _≤_, _<_}
 use native.Mathlib.Omega.{arith}
 use borrow.Rule.Slice.PartMut.{putMid, midOf}
 use lib.IntN.{ℤ}
@@ -45,7 +45,7 @@ module _ (n : ℕ) (top left : List ℕ) (corner : ℕ) (old : List ℕ) (pred :
 
 module _ (above left : Bool) (row column : List ℕ) (corner : ℕ) where
   -- DC by the sums of the two sides
-  pub dc-near : (n : ℕ) {r a l : ℕ} → 1 ≤ n → r ≡ min 255 (mean n above left a l) → SumOf n (λ i. getD row (0 + i) 0) a → SumOf n (λ i. getD column (0 + i) 0) l
+  pub dc-near : (n : ℕ) {r a l : ℕ} → 1 ≤ n → r ≡ mean n above left a l % 256 → SumOf n (λ i. getD row (0 + i) 0) a → SumOf n (λ i. getD column (0 + i) 0) l
       → r ≡ dc n above left (near row column corner)
   dc-near n some er ea el =
       dc-is n above left (near row column corner) _ _ some er ea el (λ k _. near-above row column corner (0 + k) (k + 1) (omega arith))
@@ -54,14 +54,14 @@ module _ (above left : Bool) (row column : List ℕ) (corner : ℕ) where
   -- the four regions, by the sums of half a side each
   pub regions-are : {a₀ a₄ l₀ l₄ r₀ r₁ r₂ r₃ : ℕ}
       → SumOf 4 (λ i. getD row (0 + i) 0) a₀ → SumOf 4 (λ i. getD row (4 + i) 0) a₄ → SumOf 4 (λ i. getD column (0 + i) 0) l₀ → SumOf 4 (λ i. getD column (4 + i) 0) l₄
-      → r₀ ≡ min 255 (mean 4 above left a₀ l₀) → r₁ ≡ min 255 (mean 4 above (left && not above) a₄ l₀)
-      → r₂ ≡ min 255 (mean 4 (above && not left) left a₀ l₄) → r₃ ≡ min 255 (mean 4 above left a₄ l₄)
+      → r₀ ≡ mean 4 above left a₀ l₀ % 256 → r₁ ≡ mean 4 above (left && not above) a₄ l₀ % 256
+      → r₂ ≡ mean 4 (above && not left) left a₀ l₄ % 256 → r₃ ≡ mean 4 above left a₄ l₄ % 256
       → r₀ ∷ r₁ ∷ r₂ ∷ r₃ ∷ [] ≡ table 4 (λ k. regionDc above left (near row column corner) (k % 2 * 4) (k / 2 * 4))
   unfolding table regionDc
   regions-are ea₀ ea₄ el₀ el₄ h₀ h₁ h₂ h₃ =
       rw (means above left (ea₀ .1) (el₀ .1) h₀, means above (left && not above) (ea₄ .1) (el₀ .1) h₁, means (above && not left) left (ea₀ .1) (el₄ .1) h₂, means above left (ea₄ .1) (el₄ .1) h₃, ea₀ .0 ∙ sum-row 0, ea₄ .0 ∙ sum-row 4, el₀ .0 ∙ sum-column 0, el₄ .0 ∙ sum-column 4)
     where
-      means : (above left : Bool) {a l r : ℕ} → a ≤ 255 * 4 → l ≤ 255 * 4 → r ≡ min 255 (mean 4 above left a l) → r ≡ mean 4 above left a l
+      means : (above left : Bool) {a l r : ℕ} → a ≤ 255 * 4 → l ≤ 255 * 4 → r ≡ mean 4 above left a l % 256 → r ≡ mean 4 above left a l
       means above left ha hl h = mean-is 4 above left _ _ (omega arith) ha hl h
 
       sum-row : (from : ℕ) → sumOf 4 (λ i. getD row (from + i) 0) ≡ sumOf 4 (λ x. near row column corner (from + x + 1) 0)

@@ -3,6 +3,7 @@
 ghost use mathlib.Core.Path.{_≡_};
 ghost use mathlib.Core.Bool.{cond, _&&_};
 ghost use mathlib.Core.List.{[], _∷_};
+ghost use Prim.Native.Nat.{_<_};
 ghost use lib.Dec.{eqb, leb};
 ghost use Rattle.laws.specs.Answer.{_unless_, answer};
 ghost use Rattle.samples.specs.Marks.{permittedNxN, permitted16x16, permittedChroma, modeSet, bit, predAnswer};
@@ -41,6 +42,9 @@ pub fn permitted_chroma(avail_top: bool, avail_left: bool, avail_corner: bool) -
 pub fn permits_nxn(mode: u8, avail_top: bool, avail_left: bool, avail_corner: bool) -> bool
     ensures { λ r. ⌜ r ≡ permittedNxN «avail_top» «avail_left» «avail_corner» mode ⌝ }
 {
+    if mode > 8 {
+        return false;
+    }
     has_mode(nine_modes(avail_top, avail_left, avail_corner), mode)
 }
 
@@ -48,6 +52,9 @@ pub fn permits_nxn(mode: u8, avail_top: bool, avail_left: bool, avail_corner: bo
 pub fn permits_16x16(mode: u8, avail_top: bool, avail_left: bool, avail_corner: bool) -> bool
     ensures { λ r. ⌜ r ≡ permitted16x16 «avail_top» «avail_left» «avail_corner» mode ⌝ }
 {
+    if mode > 3 {
+        return false;
+    }
     has_mode(permitted_16x16(avail_top, avail_left, avail_corner), mode)
 }
 
@@ -55,16 +62,17 @@ pub fn permits_16x16(mode: u8, avail_top: bool, avail_left: bool, avail_corner: 
 pub fn permits_chroma(mode: u8, avail_top: bool, avail_left: bool, avail_corner: bool) -> bool
     ensures { λ r. ⌜ r ≡ permittedChroma «avail_top» «avail_left» «avail_corner» mode ⌝ }
 {
+    if mode > 3 {
+        return false;
+    }
     has_mode(permitted_chroma(avail_top, avail_left, avail_corner), mode)
 }
 
 // Whether a mode is in a set: the test by its mask.
-fn has_mode(set: u16, mode: u8) -> bool
+pub(crate) fn has_mode(set: u16, mode: u8) -> bool
+    requires { ⌜ mode < 16 ⌝ }
     ensures { λ r. ⌜ r ≡ eqb (bit set mode) 1 ⌝ }
 {
-    if mode > 15 {
-        return false;
-    }
     set & (1u16 << mode) != 0
 }
 

@@ -1,7 +1,7 @@
 -- The one list of 81 that the 4x4 and 8x8 predictors work on: from 54 on the run of a block's neighbours, and before it means of the run. And the lines
 -- of 32 that the rows of an 8x8 block are windows of.
 use mathlib.Core.Path.{_≡_}
-use mathlib.Core.Bool.{cond}
+use mathlib.Core.Bool.{Bool, cond}
 use mathlib.Core.List.{List}
 use Prim.Native.Nat.{ℕ, _+_, _-_, _*_, _/_, _%_, _≤_, _<_}
 use lib.Dec.{eqb, ltb}
@@ -24,6 +24,10 @@ meanRound e k = mean3 (getD e (53 + k) 0) (getD e (54 + k) 0) (getD e (55 + k) 0
 
 abbrev pub meanFrom : List ℕ → ℕ → ℕ
 meanFrom e k = mean2 (getD e (54 + k) 0) (getD e (55 + k) 0)
+
+-- that of two in an even row, and that of three in an odd one
+abbrev pub meanIn : Bool → List ℕ → ℕ → ℕ
+meanIn odd e k = cond odd (meanRound e k) (meanFrom e k)
 
 -- ---- 4x4
 -- t holds the means of its run: at 2k that of three round place 54 + k, at 2k + 1 that of two from there on
@@ -58,12 +62,6 @@ pub record Filtered (e f : List ℕ) : Type 0 where
 pub record Line (k : ℕ) (f : ℕ → ℕ) (l : List ℕ) : Type 0 where
   pub size : length l ≡ 32
   pub is : (j : ℕ) → j < k → getD l j 0 ≡ f j
-
--- two lines in one: the first k places are f's, and k from 16 on are g's
-pub record Twin (k : ℕ) (f g : ℕ → ℕ) (l : List ℕ) : Type 0 where
-  pub size : length l ≡ 32
-  pub even : (j : ℕ) → j < k → getD l j 0 ≡ f j
-  pub odd : (j : ℕ) → j < k → getD l (16 + j) 0 ≡ g j
 
 -- a line that takes from two rules in turn, f 0, g 0, f 1, g 1, .., up to place m, and from then on from h
 unfoldable pub pairs : ℕ → (ℕ → ℕ) → (ℕ → ℕ) → (ℕ → ℕ) → ℕ → ℕ

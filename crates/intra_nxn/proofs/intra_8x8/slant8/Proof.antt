@@ -37,13 +37,13 @@ returns-3 : tie.Need-returns-3
 unfolding predNxN
 returns-3 c p a l run =
     let d = c .before .before in
-    let f = d .before .before .before .before in
+    let o = d .before .before .before .before in
+    let f = o .before in
     let b = f .before in
     let z = b .before .before .before in
-    let r = f .right-lines .result in
     let h : z .args .mode ≡ 5 = omega (arith, b .before .if1 .left, b .if3 .taken) in
-    rows-are 8 (λ x y. slid r 3 r 19 0 1 x y) (predNxN 8 (z .args .mode) a l p) (now (z .args .out)) (z .pre .2) (d .slide3 .ensures)
-    (λ x y hx hy. rw h (is-verticalRight p (now (z .args .e)) run x y hx hy r (f .right-lines .ensures)))
+    rows-are 8 (λ x y. slid (f .right-line .result) 3 (o .right-line2 .result) 3 0 1 x y) (predNxN 8 (z .args .mode) a l p) (now (z .args .out)) (z .pre .2)
+    (d .slide3 .ensures) (λ x y hx hy. rw h (is-verticalRight p (now (z .args .e)) run x y hx hy _ _ (f .right-line .ensures) (o .right-line2 .ensures)))
 
 returns-4 : tie.Need-returns-4
 unfolding predNxN
@@ -61,13 +61,13 @@ returns-5 : tie.Need-returns-5
 unfolding predNxN
 returns-5 c p a l run =
     let d = c .before .before in
-    let f = d .before .before .before .before in
+    let o = d .before .before .before .before in
+    let f = o .before in
     let b = f .before in
     let z = b .before .before .before .before .before in
-    let r = f .left-lines .result in
     let h : z .args .mode ≡ 7 = omega (arith, b .before .if4 .left, b .if5 .taken) in
-    rows-are 8 (λ x y. slid r 0 r 16 1 0 x y) (predNxN 8 (z .args .mode) a l p) (now (z .args .out)) (z .pre .2) (d .slide5 .ensures)
-    (λ x y hx hy. rw h (is-verticalLeft p (now (z .args .e)) run x y hx hy r (f .left-lines .ensures)))
+    rows-are 8 (λ x y. slid (f .left-line .result) 0 (o .left-line2 .result) 0 1 0 x y) (predNxN 8 (z .args .mode) a l p) (now (z .args .out)) (z .pre .2)
+    (d .slide5 .ensures) (λ x y hx hy. rw h (is-verticalLeft p (now (z .args .e)) run x y hx hy _ _ (f .left-line .ensures) (o .left-line2 .ensures)))
 
 returns-6 : tie.Need-returns-6
 unfolding predNxN
@@ -94,12 +94,14 @@ slant8-spec =
     returns-2
     (λ c κs. search needs)
     (λ c κs. search needs)
+    (λ c κs. search needs)
     (λ c. search needs)
     returns-3
     (λ c κs. search needs)
     (λ c κs. search needs)
     (λ c. search needs)
     returns-4
+    (λ c κs. search needs)
     (λ c κs. search needs)
     (λ c κs. search needs)
     (λ c. search needs)

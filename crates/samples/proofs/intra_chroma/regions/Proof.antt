@@ -1,7 +1,7 @@
 -- `samples::intra_chroma::regions` meets its contract: the sums and means are the definition's. Assumes nothing.
 use mathlib.Core.Path.{ap, _∙_}
 use mathlib.Core.Bool.{Bool}
-use Prim.Native.Nat.{min}
+use Prim.Native.Nat.{_%_}
 use denote.Ref.{now}
 use Rattle.samples.specs.Near.{mean}
 use Rattle.samples.proofs.Whole.{regions-are}
@@ -24,8 +24,8 @@ returns c corner =
     regions-are (a .avail-top) (a .avail-left) (now (a .top)) (now (a .left)) corner
     (a₀ .sum-of .ensures) (a₄ .sum-of2 .ensures) (l₀ .sum-of3 .ensures) (l₄ .sum-of4 .ensures)
     (m .mean-of .ensures)
-    (m₂ .mean-of2 .ensures ∙ ap (λ (b : Bool). min 255 (mean 4 (a .avail-top) b (a₄ .sum-of2 .result) (l₀ .sum-of3 .result))) (o .only .ensures))
-    (m₃ .mean-of3 .ensures ∙ ap (λ (b : Bool). min 255 (mean 4 b (a .avail-left) (a₀ .sum-of .result) (l₄ .sum-of4 .result))) (o₂ .only2 .ensures))
+    (m₂ .mean-of2 .ensures ∙ ap (λ (b : Bool). mean 4 (a .avail-top) b (a₄ .sum-of2 .result) (l₀ .sum-of3 .result) % 256) (o .only .ensures))
+    (m₃ .mean-of3 .ensures ∙ ap (λ (b : Bool). mean 4 b (a .avail-left) (a₀ .sum-of .result) (l₄ .sum-of4 .result) % 256) (o₂ .only2 .ensures))
     (c .mean-of4 .ensures)
 
 pub regions-spec : {M : Type 1} → statement M

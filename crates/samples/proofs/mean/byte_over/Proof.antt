@@ -19,5 +19,4 @@ byte-over-spec =
     returns
     (λ c. search needs)
     (λ c. search needs)
-    (λ c. search needs)
     (λ c. search needs))
