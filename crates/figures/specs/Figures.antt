@@ -16,7 +16,7 @@ use Rattle.residual.specs.Inverse.{oneDimensional, rowOf, columnOf, rounded, in
 use Rattle.samples.specs.Near.{Near, near, mean, dc}
 use Rattle.samples.specs.PlaneMode.{slope, ramp, plane}
 use Rattle.residual.specs.Qp.{QPc, table815}
-use Rattle.macroblock.specs.Square.{aboveOf, leftOf, cornerOf, around}
+use Rattle.macroblock.specs.Square.{placeAt, aboveOf, leftOf, cornerOf, nearBlock}
 
 -- what the definitions give, and what the rules say that they give
 pub record Figure : Type 0 where
@@ -42,7 +42,7 @@ samples =
 
 -- what the block reads there where above-right is marked or not; where it is not, the last sample above is repeated
 abbrev beside : Bool → Near
-beside right = around 4 12 1 1 samples 8 true true true right
+beside right = nearBlock 4 (placeAt 12 1 1) samples (record { above = true; left = true; corner = true; «above_right» = right }) 8
 
 abbrev full : Near
 full = beside true

@@ -42,9 +42,11 @@ pub fn wide(x: u8) -> u32
 
 // Whether a bit is set in a byte of marks: 1, 2, 4 and so on.
 pub fn marked(marks: u8, bit: u8) -> bool
-    requires { ⌜ 0 < bit ⌝ }
     ensures { λ r. ⌜ r ≡ isSet bit marks ⌝ }
 {
+    if bit < 1 {
+        return false;
+    }
     marks / bit % 2 == 1
 }
 

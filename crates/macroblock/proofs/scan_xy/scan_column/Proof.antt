@@ -8,7 +8,7 @@ use Rattle.macroblock.proofs.scan_xy.scan_column.Statement.{statement}
 use Rattle.macroblock.proofs.scan_xy.scan_column.Tie as tie
 
 returns-2 : tie.Need-returns-2
-returns-2 c = sym (List·getD-eq-default scanColumns 0 (omega arith))
+returns-2 c = sym (List·getD-eq-default scanColumns 0 {n = c .before .args .k} (omega arith))
 
 pub scan-column-spec : {M : Type 1} → statement M
 scan-column-spec =

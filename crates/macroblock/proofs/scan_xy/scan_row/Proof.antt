@@ -8,7 +8,7 @@ use Rattle.macroblock.proofs.scan_xy.scan_row.Statement.{statement}
 use Rattle.macroblock.proofs.scan_xy.scan_row.Tie as tie
 
 returns-2 : tie.Need-returns-2
-returns-2 c = sym (List·getD-eq-default scanRows 0 (omega arith))
+returns-2 c = sym (List·getD-eq-default scanRows 0 {n = c .before .args .k} (omega arith))
 
 pub scan-row-spec : {M : Type 1} → statement M
 scan-row-spec =
