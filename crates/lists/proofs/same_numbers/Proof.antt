@@ -36,10 +36,13 @@ returns-2 c =
 -- the test is of bits, which two numbers of 32 bits share only where they are equal
 loop-again : tie.Need-loop-again Inv-loop μ-loop
 loop-again c =
-    let i = c .before .before .before .before .loop .inv in
-    let p = sfits-of (c .before .before .if22 .given) in
-    let q = sfits-of (c .before .if23 .given) in
-    (i .0, i .1, omega arith, below-more _ _ (i .3) (sym (toZ-ofZ p) ∙ (ap (toZ w32) (c .if2 .left) ∙ toZ-ofZ q)))
+    let i = c .before .before .before .before .loop .inv in (
+      i .0,
+      i .1,
+      omega arith,
+      below-more _ _ (i .3)
+          (sym (toZ-ofZ (sfits-of (c .before .before .if22 .given))) ∙ (ap (toZ w32) (c .if2 .left) ∙ toZ-ofZ (sfits-of (c .before .if23 .given)))),
+    )
 
 returns-3 : tie.Need-returns-3 Inv-loop μ-loop
 returns-3 c =
