@@ -92,3 +92,30 @@ pub fn same(p: &[u8], q: &[u8]) -> bool
     }
     true
 }
+
+// The same for two runs of numbers.
+pub fn same_numbers(p: &[i32], q: &[i32]) -> bool
+    ensures { λ r. ⌜ (r ≡ true → now (p .entry) ≡ now (q .entry)) × (now (p .entry) ≡ now (q .entry) → r ≡ true) ⌝ }
+{
+    if p.len() != q.len() {
+        return false;
+    }
+    let n = p.len();
+    for k in 0..n {
+        if p[k] != q[k] {
+            return false;
+        }
+    }
+    true
+}
+
+// Writes a run of bytes over another of its length.
+pub fn copy(to: &mut [u8], from: &[u8])
+    requires { ⌜ length (now to) ≡ length (now from) ⌝ }
+    ensures { λ _. ⌜ now (to .exit) ≡ now (from .entry) ⌝ }
+{
+    let n = from.len();
+    for k in 0..n {
+        to[k] = from[k];
+    }
+}

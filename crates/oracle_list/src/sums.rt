@@ -1,8 +1,8 @@
 // The inverse and the clipped sums.
-use crate::case::copy;
 use crate::case::place;
 use crate::case::same;
 use crate::case::same_numbers;
+use lists::copy;
 use lists::numbers;
 
 // the answer, the coefficients, and the residual

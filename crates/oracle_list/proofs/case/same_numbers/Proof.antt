@@ -1,37 +1,22 @@
--- `oracle_list::case::same_numbers` meets its contract. The invariant: both lists are as long as the loop goes. Assumes nothing.
-use mathlib.Core.Path.{_≡_, refl}
-use Prim.Native.Nat.{_-_, _≤_}
-use native.Mathlib.Omega.{arith}
+-- `oracle_list::case::same_numbers` meets its contract: the answers agree, and the numbers do. Assumes nothing.
+use mathlib.Core.Path.{sym, subst, _∙_}
+use lib.Dec.{T}
 use borrow.Author.Needs.{needs}
-use lib.ListN.{length}
 use Rattle.oracle_list.proofs.case.same_numbers.Statement.{statement}
 use Rattle.oracle_list.proofs.case.same_numbers.Tie as tie
 
-abbrev Inv-loop : tie.InvT-loop
-Inv-loop answer out wanted block n k₀ k = (length out ≡ n) × (length block ≡ n) × (k ≤ n)
+returns : tie.Need-returns
+returns c = ((λ e. absurd (subst T (sym e) tt)), (λ a e. absurd (c .if1 .taken (a ∙ sym (c .before .wide .ensures .0)))))
 
-abbrev μ-loop : tie.MeasureT-loop
-μ-loop answer out wanted block n k₀ k = n - k
-
-loop-holds : tie.Need-loop-holds Inv-loop μ-loop
-loop-holds c = (refl, omega arith, omega arith)
+returns-2 : tie.Need-returns-2
+returns-2 c =
+    ((λ e. (c .before .if1 .left ∙ c .before .before .wide .ensures .0, c .same-numbers .ensures .0 e)), (λ a e. c .same-numbers .ensures .1 e))
 
 pub same-numbers-spec : {M : Type 1} → statement M
 same-numbers-spec =
     tie.close
     (tie.spec
-    Inv-loop
-    μ-loop
     (λ c κs. search needs)
-    (λ c. search needs)
-    (λ c. search needs)
-    loop-holds
-    (λ c. search needs)
-    (λ c. search needs)
-    (λ c. search needs)
-    (λ c. search needs)
-    (λ c. search needs)
-    (λ c. search needs)
-    (λ c. search needs)
-    (λ c. search needs)
-    (λ c. search needs))
+    returns
+    (λ c κs. search needs)
+    returns-2)
