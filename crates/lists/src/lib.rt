@@ -1,7 +1,8 @@
 // What the programs that replay a list of answers share. A list comes on standard input in parts; a part is the number of its cases and the cases.
 ghost use mathlib.Core.Path.{_≡_};
-ghost use mathlib.Core.Bool.{true};
+ghost use mathlib.Core.Bool.{true, cond};
 ghost use Prim.Native.Nat.{_+_, _≤_, _<_};
+ghost use lib.Dec.{eqb};
 ghost use lib.ListN.{length};
 ghost use Rattle.lists.specs.Numbers.{numberOf, numberAt, numbersOf, isSet};
 use libc::STDIN_FILENO;
@@ -109,8 +110,17 @@ pub fn same_numbers(p: &[i32], q: &[i32]) -> bool
     true
 }
 
-// Writes a run of bytes over another of its length.
+// A run of bytes over another of the same length; over one of another length, nothing.
 pub fn copy(to: &mut [u8], from: &[u8])
+    ensures { λ _. ⌜ now (to .exit) ≡ cond (eqb (length (now (to .entry))) (length (now (from .entry)))) (now (from .entry)) (now (to .entry)) ⌝ }
+{
+    if to.len() != from.len() {
+        return;
+    }
+    copy_all(to, from);
+}
+
+fn copy_all(to: &mut [u8], from: &[u8])
     requires { ⌜ length (now to) ≡ length (now from) ⌝ }
     ensures { λ _. ⌜ now (to .exit) ≡ now (from .entry) ⌝ }
 {

@@ -1,44 +1,20 @@
--- `lists::copy` meets its contract. The invariant: the first k bytes are copied. Assumes nothing.
-use mathlib.Core.Path.{_≡_, refl, sym, _∙_}
-use Prim.Native.Nat.{_-_, _≤_}
-use native.Mathlib.Omega.{arith}
-use lib.ListN.{length, getD}
-use Rattle.laws.proofs.Tables.{Filled, filled-none, filled-more, filled-copy}
+-- `lists::copy` meets its contract: the lengths decide. Assumes nothing.
+use borrow.Author.Tests.{eq-eqb, ne-eqb}
 use borrow.Author.Needs.{needs}
 use Rattle.lists.proofs.copy.Statement.{statement}
 use Rattle.lists.proofs.copy.Tie as tie
 
-abbrev Inv-loop : tie.InvT-loop
-Inv-loop to₀ from n k₀ to k = (length from ≡ n) × (length to₀ ≡ n) × (k ≤ n) × Filled 0 (λ i. getD from i 0) n k to
+returns : tie.Need-returns
+returns c = rw (ne-eqb _ _ (c .if1 .taken))
 
-abbrev μ-loop : tie.MeasureT-loop
-μ-loop to₀ from n k₀ to k = n - k
-
-loop-holds : tie.Need-loop-holds Inv-loop μ-loop
-loop-holds c = (refl, c .pre, omega arith, filled-none 0 _ _ _ (c .pre))
-
-loop-again : tie.Need-loop-again Inv-loop μ-loop
-loop-again c =
-    let i = c .before .before .loop .inv in
-    (i .0, i .1, omega arith, filled-more 0 _ _ _ _ _ (omega arith) (i .3) refl)
-
-same-length : tie.Need-same-length Inv-loop μ-loop
-same-length c = let i = c .before .loop .inv in i .3 .long ∙ sym (i .1)
-
-returns : tie.Need-returns Inv-loop μ-loop
-returns c = let b = c .before in filled-copy 0 (b .before .args .from .now) _ (b .loop .k) (b .loop .to) (omega arith) refl (b .loop .inv .3)
+returns-2 : tie.Need-returns-2
+returns-2 c = let e = eq-eqb _ _ (c .before .before .before .before .if1 .left) in rw e (c .before .before .copy-all .ensures)
 
 pub copy-spec : {M : Type 1} → statement M
 copy-spec =
     tie.close
     (tie.spec
-    Inv-loop
-    μ-loop
-    loop-holds
+    returns
+    (λ c κs. search needs)
     (λ c. search needs)
-    (λ c. search needs)
-    (λ c. search needs)
-    (λ c. search needs)
-    loop-again
-    same-length
-    returns)
+    returns-2)
