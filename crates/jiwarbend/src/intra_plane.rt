@@ -21,7 +21,8 @@ pub extern "C" fn jiwarbend_i16x16_luma_pred(
     stride: usize,
 ) -> u32
     ensures { λ r. ⌜ r ≡ planeAnswer 16 (leb mode 3) (length (now (pred .entry))) (length (now (rec .entry))) base stride ⌝ }
-    ensures { λ r. ⌜ now (pred .exit) ≡ written r (now (pred .entry)) (blockOf 16 (predL mode true true (nearIn (now (rec .entry)) (base - stride - 1) stride)) ++ drop 256 (now (pred .entry))) ⌝ }
+    ensures { λ r. ⌜ now (pred .exit) ≡ written r (now (pred .entry))
+        (blockOf 16 (predL mode true true (nearIn (now (rec .entry)) (base - stride - 1) stride)) ++ drop 256 (now (pred .entry))) ⌝ }
 {
     samples::intra_plane::i16x16_luma_pred(mode, pred, rec, base, stride)
 }
@@ -35,7 +36,8 @@ pub extern "C" fn jiwarbend_chroma8x8_plane_pred(
     stride: usize,
 ) -> u32
     ensures { λ r. ⌜ r ≡ planeAnswer 8 (leb 2 mode && leb mode 3) (length (now (pred .entry))) (length (now (rec .entry))) base stride ⌝ }
-    ensures { λ r. ⌜ now (pred .exit) ≡ written r (now (pred .entry)) (blockOf 8 (predC mode true true (nearIn (now (rec .entry)) (base - stride - 1) stride)) ++ drop 64 (now (pred .entry))) ⌝ }
+    ensures { λ r. ⌜ now (pred .exit) ≡ written r (now (pred .entry))
+        (blockOf 8 (predC mode true true (nearIn (now (rec .entry)) (base - stride - 1) stride)) ++ drop 64 (now (pred .entry))) ⌝ }
 {
     samples::intra_plane::chroma8x8_pred(mode, pred, rec, base, stride)
 }

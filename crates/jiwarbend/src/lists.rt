@@ -2,15 +2,6 @@
 ghost use mathlib.Core.Path.{_≡_};
 ghost use lib.ListN.{length};
 
-pub(crate) fn bytes8(s: &[u8]) -> [u8; 8]
-    requires { ⌜ length (now s) ≡ 8 ⌝ }
-    ensures { λ r. ⌜ r ≡ now (s .entry) ⌝ }
-{
-    let mut a = [0u8; 8];
-    put(&mut a, s);
-    a
-}
-
 pub(crate) fn bytes16(s: &[u8]) -> [u8; 16]
     requires { ⌜ length (now s) ≡ 16 ⌝ }
     ensures { λ r. ⌜ r ≡ now (s .entry) ⌝ }

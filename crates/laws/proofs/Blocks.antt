@@ -1,12 +1,11 @@
 -- A block while it is filled in raster order, and filled.
-use mathlib.Core.Path.{_≡_, refl, sym, ap, ap₂, _∙_, subst}
+use mathlib.Core.Path.{_≡_, sym, ap₂, _∙_, subst}
 use mathlib.Core.List.{List}
 use Prim.Native.Nat.{ℕ, zero, suc, _+_, _*_, _/_, _%_, _≤_, _<_}
 use native.Mathlib.Omega.{arith}
 use native.Mathlib.Nat.{mul-le-mul-right, mul-add-div-right, mul-add-mod-self-right, mod-eq-of-lt, div-eq-of-lt, suc-mul, mod-lt, div-lt-iff-lt-mul}
-use native.Mathlib.Numerals.{add-one}
-use lib.ListN.{getD, length, set, replicate}
-use Rattle.laws.specs.Table.{table, blockOf}
+use lib.ListN.{length, set}
+use Rattle.laws.specs.Table.{blockOf}
 use Rattle.laws.proofs.Tables.{Filled, filled-none, filled-more, filled-all, table-same}
 
 -- the first k samples of a block of side n are g's

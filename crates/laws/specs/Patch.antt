@@ -1,7 +1,7 @@
 -- A list with the elements at some places put anew.
 use mathlib.Core.Bool.{Bool, cond}
 use mathlib.Core.List.{List, [], _∷_}
-use Prim.Native.Nat.{ℕ, zero, suc}
+use Prim.Native.Nat.{ℕ, suc}
 
 -- the same for a list whose first place is number k
 abbrev pub patchFrom : (ℕ → Bool) → (ℕ → ℕ) → ℕ → List ℕ → List ℕ

@@ -9,14 +9,14 @@ use borrow.Rule.Slice.PartMut.{putMid, midOf}
 use lib.IntN.{ℤ, pos, negℤ, _+ℤ_, _-ℤ_}
 use lib.Dec.{lit<}
 use lib.ListN.{length, getD, drop}
-use lib.Seq.{getD-take, getD-drop, drop-at}
+use lib.Seq.{getD-take, getD-drop}
 use lib.Signed.{shrZ}
 use mir.Syntax.{w16, w32}
 use mir.Val.{SFits, toZ, ofZ}
 use mir.ValLaws.{toZ-ofZ}
 use Rattle.laws.specs.Range.{Within, AllWithin, at}
 use Rattle.laws.specs.Table.{table, blockOf, onto}
-use Rattle.laws.proofs.Ints.{ints, within-more, within-neg, within-shr, within-short, within-table, abs-add, parts-abs, parts-shr, four-is, back}
+use Rattle.laws.proofs.Ints.{ints, within-more, within-neg, within-shr, within-short, within-table, abs-add, parts-abs, parts-shr, back}
 use Rattle.laws.proofs.Ontos.{onto-long, onto-row}
 use Rattle.laws.proofs.Tables.{length-table, getD-table, table-same}
 use Rattle.residual.specs.Inverse.{oneDimensional, rowOf, columnOf, rounded, inverse4x4, inverseBlocks}

@@ -1,7 +1,6 @@
 -- The numbers that may be given: those of 16-bit two's complement (docs/RULES.md, refusal 8).
 use mathlib.Core.Bool.{Bool, true, _&&_}
 use mathlib.Core.List.{List, [], _∷_}
-use Prim.Native.Nat.{ℕ}
 use lib.IntN.{ℤ, pos}
 use lib.Signed.{leZ}
 use Rattle.laws.specs.Range.{minus}

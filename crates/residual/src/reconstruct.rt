@@ -7,7 +7,7 @@ ghost use lib.Dec.{eqb, leb};
 ghost use lib.IntN.{ℤ, pos, _+ℤ_};
 ghost use lib.ListN.{length, replicate};
 ghost use Rattle.laws.specs.Answer.{_unless_, answer, written};
-ghost use Rattle.laws.specs.Range.{Within, AllWithin};
+ghost use Rattle.laws.specs.Range.{AllWithin};
 ghost use Rattle.residual.specs.Clip.{Clip1};
 ghost use Rattle.residual.specs.Inverse.{inverse4x4};
 ghost use Rattle.residual.specs.Numbers.{inRange, allInRange};
@@ -322,7 +322,8 @@ fn put_rows(
 )
     requires { ⌜ (m ≤ 4) × (length (now res) ≡ 4 * m * (4 * m)) ⌝ }
     requires { ⌜ intoRoom (4 * m) (length (now pred)) «p_off» «p_stride» (length (now rec)) «r_off» «r_stride» ≡ true ⌝ }
-    ensures { λ _. ⌜ now (rec .exit) ≡ putSquare (4 * m) «r_off» «r_stride» (sumIn (4 * m) (now (res .entry)) (now (pred .entry)) «p_off» «p_stride») (now (rec .entry)) ⌝ }
+    ensures { λ _. ⌜ now (rec .exit)
+        ≡ putSquare (4 * m) «r_off» «r_stride» (sumIn (4 * m) (now (res .entry)) (now (pred .entry)) «p_off» «p_stride») (now (rec .entry)) ⌝ }
 {
     for y in 0..4 * m {
         let at = r_off + y * r_stride;

@@ -13,8 +13,4 @@ returns-2 c = let e = eq-eqb _ _ (c .before .before .before .before .if1 .left) 
 pub copy-spec : {M : Type 1} → statement M
 copy-spec =
     tie.close
-    (tie.spec
-    returns
-    (λ c κs. search needs)
-    (λ c. search needs)
-    returns-2)
+    (tie.spec returns (λ c κs. search needs) (λ c. search needs) returns-2)

@@ -31,14 +31,5 @@ returns c = let b = c .before in filled-copy 0 (b .before .args .from .now) _ (b
 pub copy-all-spec : {M : Type 1} → statement M
 copy-all-spec =
     tie.close
-    (tie.spec
-    Inv-loop
-    μ-loop
-    loop-holds
-    (λ c. search needs)
-    (λ c. search needs)
-    (λ c. search needs)
-    (λ c. search needs)
-    loop-again
-    same-length
+    (tie.spec Inv-loop μ-loop loop-holds (λ c. search needs) (λ c. search needs) (λ c. search needs) (λ c. search needs) loop-again same-length
     returns)

@@ -12,7 +12,4 @@ returns c = let e : c .before .args .bit ≡ 0 = omega arith in rw (e, div-zero)
 pub marked-spec : {M : Type 1} → statement M
 marked-spec =
     tie.close
-    (tie.spec
-    returns
-    (λ c. search needs)
-    (λ c. search needs))
+    (tie.spec returns (λ c. search needs) (λ c. search needs))

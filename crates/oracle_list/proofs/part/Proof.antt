@@ -11,11 +11,5 @@ slice-aggregate-replay c = simp length-take (omega arith)
 pub part-spec : {M : Type 1} → statement M
 part-spec =
     tie.close
-    (tie.spec
-    (λ c κs. search needs)
-    (λ c κs. search needs)
-    (λ c. search needs)
-    slice-aggregate-replay
-    (λ c κs. search needs)
-    (λ c κs. search needs)
+    (tie.spec (λ c κs. search needs) (λ c κs. search needs) (λ c. search needs) slice-aggregate-replay (λ c κs. search needs) (λ c κs. search needs)
     (λ c. search needs))

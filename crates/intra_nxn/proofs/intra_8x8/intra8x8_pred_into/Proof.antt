@@ -33,12 +33,5 @@ returns-2 c =
 pub intra8x8-pred-into-spec : {M : Type 1} → statement M
 intra8x8-pred-into-spec =
     tie.close
-    (tie.spec
-    (λ c κs. search needs)
-    (λ c κs. search needs)
-    returns
-    run-of-requires
-    (λ c κs. search needs)
-    draw8-requires
-    (λ c. search needs)
+    (tie.spec (λ c κs. search needs) (λ c κs. search needs) returns run-of-requires (λ c κs. search needs) draw8-requires (λ c. search needs)
     returns-2)

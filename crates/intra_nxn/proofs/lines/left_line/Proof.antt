@@ -1,9 +1,9 @@
 -- `intra_nxn::lines::left_line` meets its contract. After j turns the first j places are the line's. Assumes nothing.
-use mathlib.Core.Path.{_≡_, refl}
+use mathlib.Core.Path.{refl}
 use Prim.Native.Nat.{_+_, _-_, _≤_}
 use native.Mathlib.Omega.{arith}
 use Rattle.intra_nxn.specs.inner.Run.{Line, meanIn}
-use Rattle.intra_nxn.proofs.Slides.{line-none, line-more}
+use Rattle.intra_nxn.proofs.Slides.{line-none, line-more, line-done}
 use borrow.Author.Needs.{needs}
 use Rattle.intra_nxn.proofs.lines.left_line.Statement.{statement}
 use Rattle.intra_nxn.proofs.lines.left_line.Tie as tie
@@ -21,22 +21,10 @@ loop-again : tie.Need-loop-again Inv-loop μ-loop
 loop-again c = let l = c .before .before .loop in (omega arith, line-more (l .j) _ (l .line) (omega arith) (l .inv .1) (c .mean-in .ensures))
 
 returns : tie.Need-returns Inv-loop μ-loop
-returns c =
-    let l = c .before .loop in
-    let e : l .j ≡ 11 = omega arith in
-    rw e at (l .inv .1)
+returns c = let l = c .before .loop in line-done (l .j) 11 (omega arith) (l .inv .1)
 
 pub left-line-spec : {M : Type 1} → statement M
 left-line-spec =
     tie.close
-    (tie.spec
-    Inv-loop
-    μ-loop
-    loop-holds
-    (λ c. search needs)
-    (λ c κs. search needs)
-    (λ c. search needs)
-    (λ c. search needs)
-    (λ c. search needs)
-    loop-again
-    returns)
+    (tie.spec Inv-loop μ-loop loop-holds (λ c. search needs) (λ c κs. search needs) (λ c. search needs) (λ c. search needs) (λ c. search needs)
+    loop-again returns)

@@ -1,7 +1,6 @@
 -- `jiwarbend::intra::jiwarbend_luma16x16_dc` meets its contract: the lengths first, then what the routine says. Assumes nothing.
 use mathlib.Core.Path.{refl, ap, _∙_}
 use mathlib.Core.List.{[], _∷_}
-use native.Mathlib.Omega.{arith}
 use borrow.Author.Needs.{needs}
 use borrow.Author.Tests.{eq-eqb, ne-eqb}
 use Rattle.jiwarbend.proofs.intra.jiwarbend_luma16x16_dc.Statement.{statement}
@@ -28,14 +27,5 @@ returns-4 c =
 pub jiwarbend-luma16x16-dc-spec : {M : Type 1} → statement M
 jiwarbend-luma16x16-dc-spec =
     tie.close
-    (tie.spec
-    returns
-    returns-2
-    returns-3
-    (λ c κs. search needs)
-    (λ c κs. search needs)
-    (λ c κs. search needs)
-    (λ c. search needs)
-    (λ c κs. search needs)
-    (λ c. search needs)
-    returns-4)
+    (tie.spec returns returns-2 returns-3 (λ c κs. search needs) (λ c κs. search needs) (λ c κs. search needs) (λ c. search needs)
+    (λ c κs. search needs) (λ c. search needs) returns-4)

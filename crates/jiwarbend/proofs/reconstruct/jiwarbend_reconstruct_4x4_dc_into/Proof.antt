@@ -10,7 +10,4 @@ returns c = let f = c .before .before .before .before .before .before .fits .rva
 pub jiwarbend-reconstruct-4x4-dc-into-spec : {M : Type 1} → statement M
 jiwarbend-reconstruct-4x4-dc-into-spec =
     tie.close
-    (tie.spec
-    (λ c κs. search needs)
-    (λ c. search needs)
-    returns)
+    (tie.spec (λ c κs. search needs) (λ c. search needs) returns)

@@ -10,6 +10,4 @@ returns c = let f = c .before .fits .v in rw toZ-ofZ at (c .clip-u8 .ensures)
 pub jiwarbend-clip-u8-spec : {M : Type 1} → statement M
 jiwarbend-clip-u8-spec =
     tie.close
-    (tie.spec
-    (λ c κs. search needs)
-    returns)
+    (tie.spec (λ c κs. search needs) returns)

@@ -1,5 +1,5 @@
 -- `jiwarbend::small::jiwarbend_nc_from_neighbors` meets its contract, which is the routine's own over two marked numbers. Assumes nothing.
-use mathlib.Core.Path.{_≡_, sym, ap₂, subst, _∙_}
+use mathlib.Core.Path.{sym, ap₂, subst, _∙_}
 use mathlib.Core.Bool.{Bool, true, false}
 use Prim.Native.Nat.{ℕ, _≤_, _<_}
 use native.Mathlib.Omega.{arith}
@@ -28,8 +28,4 @@ returns c =
 pub jiwarbend-nc-from-neighbors-spec : {M : Type 1} → statement M
 jiwarbend-nc-from-neighbors-spec =
     tie.close
-    (tie.spec
-    (λ c κs. search needs)
-    (λ c κs. search needs)
-    (λ c κs. search needs)
-    returns)
+    (tie.spec (λ c κs. search needs) (λ c κs. search needs) (λ c κs. search needs) returns)

@@ -1,6 +1,5 @@
 -- `jiwarbend::small::jiwarbend_nnz_raster_from_z` meets its contract: the lengths first, then what the routine says. Assumes nothing.
 use mathlib.Core.Path.{refl, _∙_}
-use native.Mathlib.Omega.{arith}
 use borrow.Author.Needs.{needs}
 use borrow.Author.Tests.{eq-eqb, ne-eqb}
 use Rattle.jiwarbend.proofs.small.jiwarbend_nnz_raster_from_z.Statement.{statement}
@@ -23,12 +22,4 @@ returns-3 c =
 pub jiwarbend-nnz-raster-from-z-spec : {M : Type 1} → statement M
 jiwarbend-nnz-raster-from-z-spec =
     tie.close
-    (tie.spec
-    returns
-    returns-2
-    (λ c κs. search needs)
-    (λ c κs. search needs)
-    (λ c. search needs)
-    (λ c κs. search needs)
-    (λ c. search needs)
-    returns-3)
+    (tie.spec returns returns-2 (λ c κs. search needs) (λ c κs. search needs) (λ c. search needs) (λ c κs. search needs) (λ c. search needs) returns-3)

@@ -1,5 +1,4 @@
 -- `jiwarbend::small::neighbor_of` meets its contract: the two cases are the definition's. Assumes nothing.
-use borrow.Author.Needs.{needs}
 use Rattle.jiwarbend.proofs.small.neighbor_of.Statement.{statement}
 use Rattle.jiwarbend.proofs.small.neighbor_of.Tie as tie
 
@@ -12,6 +11,4 @@ returns-2 c = rw (c .if1 .left)
 pub neighbor-of-spec : {M : Type 1} → statement M
 neighbor-of-spec =
     tie.close
-    (tie.spec
-    returns
-    returns-2)
+    (tie.spec returns returns-2)

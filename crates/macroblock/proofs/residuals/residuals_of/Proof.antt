@@ -66,22 +66,6 @@ returns-3 c =
 pub residuals-of-spec : {M : Type 1} → statement M
 residuals-of-spec =
     tie.close
-    (tie.spec
-    slice-aggregate-narrow-all
-    (λ c. search needs)
-    slice-aggregate-narrow-all-2
-    (λ c κs. search needs)
-    (λ c. search needs)
-    returns
-    (λ c. search needs)
-    (λ c. search needs)
-    (λ c. search needs)
-    (λ c. search needs)
-    (λ c. search needs)
-    (λ c. search needs)
-    (λ c κs. search needs)
-    (λ c. search needs)
-    returns-2
-    (λ c κs. search needs)
-    (λ c. search needs)
-    returns-3)
+    (tie.spec slice-aggregate-narrow-all (λ c. search needs) slice-aggregate-narrow-all-2 (λ c κs. search needs) (λ c. search needs) returns
+    (λ c. search needs) (λ c. search needs) (λ c. search needs) (λ c. search needs) (λ c. search needs) (λ c. search needs) (λ c κs. search needs)
+    (λ c. search needs) returns-2 (λ c κs. search needs) (λ c. search needs) returns-3)

@@ -13,7 +13,4 @@ returns-2 c = sym (List·getD-eq-default scanColumns 0 {n = c .before .args .k} 
 pub scan-column-spec : {M : Type 1} → statement M
 scan-column-spec =
     tie.close
-    (tie.spec
-    (λ c. search needs)
-    (λ c. search needs)
-    returns-2)
+    (tie.spec (λ c. search needs) (λ c. search needs) returns-2)

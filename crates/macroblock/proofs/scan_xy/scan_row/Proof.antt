@@ -13,7 +13,4 @@ returns-2 c = sym (List·getD-eq-default scanRows 0 {n = c .before .args .k} (om
 pub scan-row-spec : {M : Type 1} → statement M
 scan-row-spec =
     tie.close
-    (tie.spec
-    (λ c. search needs)
-    (λ c. search needs)
-    returns-2)
+    (tie.spec (λ c. search needs) (λ c. search needs) returns-2)

@@ -11,10 +11,4 @@ slice-aggregate-read-full c = simp length-take (omega arith)
 pub read-plane-spec : {M : Type 1} → statement M
 read-plane-spec =
     tie.close
-    (tie.spec
-    (λ c. search needs)
-    (λ c. search needs)
-    slice-aggregate-read-full
-    (λ c κs. search needs)
-    (λ c. search needs)
-    (λ c. search needs))
+    (tie.spec (λ c. search needs) (λ c. search needs) slice-aggregate-read-full (λ c κs. search needs) (λ c. search needs) (λ c. search needs))

@@ -40,22 +40,6 @@ returns c =
 pub column-spec : {M : Type 1} → statement M
 column-spec =
     tie.close
-    (tie.spec
-    (λ c. search needs)
-    (λ c. search needs)
-    (λ c. search needs)
-    (λ c. search needs)
-    (λ c. search needs)
-    (λ c. search needs)
-    (λ c. search needs)
-    (λ c. search needs)
-    one-dimensional-requires
-    (λ c. search needs)
-    round-requires
-    (λ c. search needs)
-    round-requires-2
-    (λ c. search needs)
-    round-requires-3
-    (λ c. search needs)
-    round-requires-4
-    returns)
+    (tie.spec (λ c. search needs) (λ c. search needs) (λ c. search needs) (λ c. search needs) (λ c. search needs) (λ c. search needs)
+    (λ c. search needs) (λ c. search needs) one-dimensional-requires (λ c. search needs) round-requires (λ c. search needs) round-requires-2
+    (λ c. search needs) round-requires-3 (λ c. search needs) round-requires-4 returns)

@@ -11,7 +11,4 @@ returns c = let p = c .before .inverse-4x4-list .ensures in (p .0 ∙ inverse-ar
 pub inverse-4x4-spec : {M : Type 1} → statement M
 inverse-4x4-spec =
     tie.close
-    (tie.spec
-    (λ c. search needs)
-    (λ c κs. search needs)
-    returns)
+    (tie.spec (λ c. search needs) (λ c κs. search needs) returns)

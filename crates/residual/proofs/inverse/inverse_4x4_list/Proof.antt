@@ -35,13 +35,5 @@ returns-4 c =
 pub inverse-4x4-list-spec : {M : Type 1} → statement M
 inverse-4x4-list-spec =
     tie.close
-    (tie.spec
-    returns
-    returns-2
-    (λ c κs. search needs)
-    returns-3
-    inverse-core-requires
-    (λ c. search needs)
-    (λ c κs. search needs)
-    (λ c. search needs)
+    (tie.spec returns returns-2 (λ c κs. search needs) returns-3 inverse-core-requires (λ c. search needs) (λ c κs. search needs) (λ c. search needs)
     returns-4)

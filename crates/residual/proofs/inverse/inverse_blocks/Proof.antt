@@ -34,11 +34,4 @@ returns-4 c =
 pub inverse-blocks-spec : {M : Type 1} → statement M
 inverse-blocks-spec =
     tie.close
-    (tie.spec
-    returns
-    returns-2
-    (λ c κs. search needs)
-    returns-3
-    invert-all-requires
-    (λ c. search needs)
-    returns-4)
+    (tie.spec returns returns-2 (λ c κs. search needs) returns-3 invert-all-requires (λ c. search needs) returns-4)

@@ -16,7 +16,4 @@ returns c = c .before .invert .ensures ∙ append-nil _
 pub inverse-core-spec : {M : Type 1} → statement M
 inverse-core-spec =
     tie.close
-    (tie.spec
-    (λ c. search needs)
-    invert-requires
-    returns)
+    (tie.spec (λ c. search needs) invert-requires returns)

@@ -1,5 +1,5 @@
 -- `residual::inverse::invert_all` meets its contract. The invariant: the first b blocks are put. Assumes nothing.
-use mathlib.Core.Path.{_≡_, refl, sym, ap, _∙_, subst}
+use mathlib.Core.Path.{_≡_, sym, ap, _∙_, subst}
 use Prim.Native.Nat.{_+_, _*_, _-_, _≤_}
 use native.Mathlib.Omega.{arith}
 use lib.ListN.{length, length-take, length-drop}
@@ -65,23 +65,7 @@ returns c =
 pub invert-all-spec : {M : Type 1} → statement M
 invert-all-spec =
     tie.close
-    (tie.spec
-    Inv-loop
-    μ-loop
-    loop-holds
-    (λ c. search needs)
-    (λ c. search needs)
-    (λ c. search needs)
-    (λ c. search needs)
-    (λ c. search needs)
-    (λ c. let h = here (c .before) in search needs)
-    (λ c. let h = here (c .before) in search needs)
-    (λ c. let h = here (c .before) in search needs)
-    (λ c. let h = here (c .before) in search needs)
-    (λ c. let h = here (c .before) in search needs)
-    invert-requires
-    (λ c. search needs)
-    (λ c. search needs)
-    loop-again
-    same-length
-    returns)
+    (tie.spec Inv-loop μ-loop loop-holds (λ c. search needs) (λ c. search needs) (λ c. search needs) (λ c. search needs) (λ c. search needs)
+    (λ c. let h = here (c .before) in search needs) (λ c. let h = here (c .before) in search needs) (λ c. let h = here (c .before) in search needs)
+    (λ c. let h = here (c .before) in search needs) (λ c. let h = here (c .before) in search needs) invert-requires (λ c. search needs)
+    (λ c. search needs) loop-again same-length returns)

@@ -16,13 +16,5 @@ returns c =
 pub one-dimensional-spec : {M : Type 1} → statement M
 one-dimensional-spec =
     tie.close
-    (tie.spec
-    (λ c. search ints depth 20)
-    (λ c. search ints depth 20)
-    (λ c. search ints depth 20)
-    (λ c. search ints depth 20)
-    (λ c. search ints depth 20)
-    (λ c. search ints depth 20)
-    (λ c. search ints depth 20)
-    (λ c. search ints depth 20)
-    returns)
+    (tie.spec (λ c. search ints depth 20) (λ c. search ints depth 20) (λ c. search ints depth 20) (λ c. search ints depth 20)
+    (λ c. search ints depth 20) (λ c. search ints depth 20) (λ c. search ints depth 20) (λ c. search ints depth 20) returns)

@@ -1,9 +1,5 @@
 -- `residual::inverse::round` meets its contract: a number of the second pass, rounded, has sixteen bits. Assumes nothing.
-use mathlib.Core.Path.{_≡_, ap, _∙_}
-use lib.IntN.{ℤ}
-use mir.Syntax.{w16}
-use mir.Val.{SFits, toZ, ofZ}
-use Rattle.laws.proofs.Ints.{ints, back}
+use Rattle.laws.proofs.Ints.{ints}
 use Rattle.residual.proofs.Transform.{round-short}
 use Rattle.residual.proofs.inverse.round.Statement.{statement}
 use Rattle.residual.proofs.inverse.round.Tie as tie

@@ -1,8 +1,8 @@
 -- `residual::numbers::all_in_range` meets its contract. The invariant: the least and the greatest of the numbers passed tell what each of them tells.
 -- Assumes nothing.
-use mathlib.Core.Path.{_≡_, refl, sym, ap, ap₂, _∙_}
-use mathlib.Core.Bool.{true, false, _&&_}
-use Prim.Native.Nat.{ℕ, _≤_, _-_}
+use mathlib.Core.Path.{_≡_, sym, ap, _∙_}
+use mathlib.Core.Bool.{_&&_}
+use Prim.Native.Nat.{_≤_, _-_}
 use native.Mathlib.Omega.{arith}
 use mir.Facts.{toZ-ofZ, sfits-lit}
 use mir.Syntax.{w32}
@@ -87,18 +87,5 @@ returns-2 c =
 pub all-in-range-spec : {M : Type 1} → statement M
 all-in-range-spec =
     tie.close
-    (tie.spec
-    Inv-loop
-    μ-loop
-    loop-holds
-    mul-least
-    shared-slice-copy-out-least
-    least-requires
-    mul-greatest
-    shared-slice-copy-out-greatest
-    greatest-requires
-    add-i
-    loop-less
-    loop-again
-    returns
-    returns-2)
+    (tie.spec Inv-loop μ-loop loop-holds mul-least shared-slice-copy-out-least least-requires mul-greatest shared-slice-copy-out-greatest
+    greatest-requires add-i loop-less loop-again returns returns-2)

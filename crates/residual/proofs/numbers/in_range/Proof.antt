@@ -15,6 +15,4 @@ returns-2 c = let f = c .before .fits .v in rw (toZ-ofZ, rw toZ-ofZ at (c .if1 .
 pub in-range-spec : {M : Type 1} → statement M
 in-range-spec =
     tie.close
-    (tie.spec
-    returns
-    returns-2)
+    (tie.spec returns returns-2)

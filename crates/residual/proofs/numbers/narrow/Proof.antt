@@ -28,8 +28,4 @@ returns-2 c = (rw (sym (tested (c .before)) ∙ c .if1 .left), λ e. absurd (ome
 pub narrow-spec : {M : Type 1} → statement M
 narrow-spec =
     tie.close
-    (tie.spec
-    (λ c κs. search needs)
-    cast-t4
-    returns
-    returns-2)
+    (tie.spec (λ c κs. search needs) cast-t4 returns returns-2)

@@ -28,10 +28,4 @@ returns-3 c =
 pub narrow-all-spec : {M : Type 1} → statement M
 narrow-all-spec =
     tie.close
-    (tie.spec
-    returns
-    (λ c κs. search needs)
-    returns-2
-    narrow-list-requires
-    (λ c. search needs)
-    returns-3)
+    (tie.spec returns (λ c κs. search needs) returns-2 narrow-list-requires (λ c. search needs) returns-3)

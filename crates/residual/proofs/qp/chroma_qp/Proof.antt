@@ -29,9 +29,4 @@ returns-3 c =
 pub chroma-qp-spec : {M : Type 1} → statement M
 chroma-qp-spec =
     tie.close
-    (tie.spec
-    returns
-    returns-2
-    (λ c. search needs)
-    (λ c. search needs)
-    returns-3)
+    (tie.spec returns returns-2 (λ c. search needs) (λ c. search needs) returns-3)

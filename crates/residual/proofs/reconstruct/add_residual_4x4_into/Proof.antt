@@ -20,9 +20,4 @@ returns c =
 pub add-residual-4x4-into-spec : {M : Type 1} → statement M
 add-residual-4x4-into-spec =
     tie.close
-    (tie.spec
-    (λ c. search needs)
-    (λ c κs. search needs)
-    (λ c κs. search needs)
-    (λ c. search needs)
-    returns)
+    (tie.spec (λ c. search needs) (λ c κs. search needs) (λ c κs. search needs) (λ c. search needs) returns)

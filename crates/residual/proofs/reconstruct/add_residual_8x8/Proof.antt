@@ -11,7 +11,4 @@ returns c = let p = c .before .add-residual-lists .ensures in let d = c .before 
 pub add-residual-8x8-spec : {M : Type 1} → statement M
 add-residual-8x8-spec =
     tie.close
-    (tie.spec
-    (λ c. search needs)
-    (λ c κs. search needs)
-    returns)
+    (tie.spec (λ c. search needs) (λ c κs. search needs) returns)

@@ -51,16 +51,5 @@ returns-5 c =
 pub add-residual-into-spec : {M : Type 1} → statement M
 add-residual-into-spec =
     tie.close
-    (tie.spec
-    returns
-    returns-2
-    (λ c. search needs)
-    (λ c. search needs)
-    mul-if3-3
-    returns-3
-    (λ c. search needs)
-    (λ c κs. search needs)
-    returns-4
-    put-rows-requires
-    (λ c. search needs)
-    returns-5)
+    (tie.spec returns returns-2 (λ c. search needs) (λ c. search needs) mul-if3-3 returns-3 (λ c. search needs) (λ c κs. search needs) returns-4
+    put-rows-requires (λ c. search needs) returns-5)

@@ -22,9 +22,4 @@ add-clipped-requires c κs =
 pub add-residual-lists-spec : {M : Type 1} → statement M
 add-residual-lists-spec =
     tie.close
-    (tie.spec
-    (λ c κs. search needs)
-    returns
-    add-clipped-requires
-    (λ c. search needs)
-    (λ c. search needs))
+    (tie.spec (λ c κs. search needs) returns add-clipped-requires (λ c. search needs) (λ c. search needs))

@@ -14,8 +14,4 @@ returns-2 c = let e = sym (c .before .before .all-in-range .ensures) ∙ not-fal
 pub both-in-range-spec : {M : Type 1} → statement M
 both-in-range-spec =
     tie.close
-    (tie.spec
-    (λ c κs. search needs)
-    returns
-    (λ c κs. search needs)
-    returns-2)
+    (tie.spec (λ c κs. search needs) returns (λ c κs. search needs) returns-2)

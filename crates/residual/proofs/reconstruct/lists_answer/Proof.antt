@@ -27,10 +27,4 @@ returns-5 c =
 pub lists-answer-spec : {M : Type 1} → statement M
 lists-answer-spec =
     tie.close
-    (tie.spec
-    returns
-    returns-2
-    returns-3
-    (λ c κs. search needs)
-    returns-4
-    returns-5)
+    (tie.spec returns returns-2 returns-3 (λ c κs. search needs) returns-4 returns-5)

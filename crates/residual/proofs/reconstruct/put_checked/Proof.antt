@@ -41,11 +41,4 @@ returns-4 c =
 pub put-checked-spec : {M : Type 1} → statement M
 put-checked-spec =
     tie.close
-    (tie.spec
-    returns
-    (λ c κs. search needs)
-    returns-2
-    returns-3
-    put-rows-requires
-    (λ c. search needs)
-    returns-4)
+    (tie.spec returns (λ c κs. search needs) returns-2 returns-3 put-rows-requires (λ c. search needs) returns-4)

@@ -70,23 +70,7 @@ returns c =
 pub put-rows-spec : {M : Type 1} → statement M
 put-rows-spec =
     tie.close
-    (tie.spec
-    Inv-loop
-    μ-loop
-    (λ c. search needs)
-    loop-holds
-    (λ c. let w = here c in omega arith)
-    (λ c. let w = here c in omega arith)
-    (λ c. search needs)
-    wide
-    (λ c. let w = here c in omega arith)
-    (λ c. let w = here c in omega arith)
-    (λ c. let w = here c in omega arith)
-    (λ c. let w = here c in omega arith)
-    (λ c. let w = here c in omega arith)
-    put-row-requires
-    (λ c. search needs)
-    (λ c. search needs)
-    loop-again
-    same-length
-    returns)
+    (tie.spec Inv-loop μ-loop (λ c. search needs) loop-holds (λ c. let w = here c in omega arith) (λ c. let w = here c in omega arith)
+    (λ c. search needs) wide (λ c. let w = here c in omega arith) (λ c. let w = here c in omega arith) (λ c. let w = here c in omega arith)
+    (λ c. let w = here c in omega arith) (λ c. let w = here c in omega arith) put-row-requires (λ c. search needs) (λ c. search needs) loop-again
+    same-length returns)

@@ -11,7 +11,4 @@ returns c = let p = c .before .reconstruct-4x4-lists .ensures in let d = c .befo
 pub reconstruct-4x4-spec : {M : Type 1} → statement M
 reconstruct-4x4-spec =
     tie.close
-    (tie.spec
-    (λ c. search needs)
-    (λ c κs. search needs)
-    returns)
+    (tie.spec (λ c. search needs) (λ c κs. search needs) returns)

@@ -35,8 +35,4 @@ returns c =
 pub reconstruct-4x4-dc-into-spec : {M : Type 1} → statement M
 reconstruct-4x4-dc-into-spec =
     tie.close
-    (tie.spec
-    (λ c κs. search needs)
-    (λ c κs. search needs)
-    (λ c. search needs)
-    returns)
+    (tie.spec (λ c κs. search needs) (λ c κs. search needs) (λ c. search needs) returns)

@@ -29,9 +29,4 @@ returns c =
 pub reconstruct-4x4-into-spec : {M : Type 1} → statement M
 reconstruct-4x4-into-spec =
     tie.close
-    (tie.spec
-    (λ c. search needs)
-    (λ c κs. search needs)
-    (λ c κs. search needs)
-    (λ c. search needs)
-    returns)
+    (tie.spec (λ c. search needs) (λ c κs. search needs) (λ c κs. search needs) (λ c. search needs) returns)

@@ -48,14 +48,5 @@ returns-2 c =
 pub reconstruct-4x4-lists-spec : {M : Type 1} → statement M
 reconstruct-4x4-lists-spec =
     tie.close
-    (tie.spec
-    (λ c κs. search needs)
-    returns
-    inverse-core-requires
-    (λ c. search needs)
-    (λ c. search needs)
-    (λ c κs. search needs)
-    (λ c. search needs)
-    add-clipped-requires
-    (λ c. search needs)
-    returns-2)
+    (tie.spec (λ c κs. search needs) returns inverse-core-requires (λ c. search needs) (λ c. search needs) (λ c κs. search needs) (λ c. search needs)
+    add-clipped-requires (λ c. search needs) returns-2)

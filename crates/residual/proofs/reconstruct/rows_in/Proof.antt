@@ -31,9 +31,4 @@ returns-2 c =
 pub rows-in-spec : {M : Type 1} → statement M
 rows-in-spec =
     tie.close
-    (tie.spec
-    (λ c. search needs)
-    mul-rows
-    add-rows
-    returns
-    returns-2)
+    (tie.spec (λ c. search needs) mul-rows add-rows returns returns-2)

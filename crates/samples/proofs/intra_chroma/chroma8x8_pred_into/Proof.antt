@@ -34,10 +34,4 @@ returns-2 c =
 pub chroma8x8-pred-into-spec : {M : Type 1} → statement M
 chroma8x8-pred-into-spec =
     tie.close
-    (tie.spec
-    (λ c κs. search needs)
-    (λ c κs. search needs)
-    returns
-    predict-chroma-requires
-    (λ c. search needs)
-    returns-2)
+    (tie.spec (λ c κs. search needs) (λ c κs. search needs) returns predict-chroma-requires (λ c. search needs) returns-2)

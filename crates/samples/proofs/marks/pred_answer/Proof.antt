@@ -24,10 +24,4 @@ returns-4 c = rw (eq-eqb _ _ (c .before .before .before .if1 .left), eq-eqb _ _ 
 pub pred-answer-spec : {M : Type 1} → statement M
 pred-answer-spec =
     tie.close
-    (tie.spec
-    returns
-    returns-2
-    mul-if3
-    returns-3
-    (λ c κs. search needs)
-    returns-4)
+    (tie.spec returns returns-2 mul-if3 returns-3 (λ c κs. search needs) returns-4)
