@@ -18,9 +18,7 @@ loop-holds : tie.Need-loop-holds Inv-loop μ-loop
 loop-holds c = (refl, c .pre, omega arith, filled-none 0 _ _ _ (c .pre))
 
 loop-again : tie.Need-loop-again Inv-loop μ-loop
-loop-again c =
-    let i = c .before .before .loop .inv in
-    (i .0, i .1, omega arith, filled-more 0 _ _ _ _ _ (omega arith) (i .3) refl)
+loop-again c = let i = c .before .before .loop .inv in (i .0, i .1, omega arith, filled-more 0 _ _ _ _ _ (omega arith) (i .3) refl)
 
 same-length : tie.Need-same-length Inv-loop μ-loop
 same-length c = let i = c .before .loop .inv in i .3 .long ∙ sym (i .1)
