@@ -1,7 +1,8 @@
 // The picture: macroblocks offered in any order, over planes, maps and a progress record that are lent.
 ghost use mathlib.Core.Path.{_≡_};
-ghost use Prim.Native.Nat.{ℕ};
 ghost use Rattle.macroblock.specs.Kinds.{recordOf};
+ghost use Rattle.macroblock.specs.Rules.{listsGood};
+ghost use Rattle.macroblock.specs.declared.Record.{Record};
 ghost use Rattle.picture.specs.AnyOrder.{AnyOrder};
 ghost use Rattle.picture.specs.Rebuild.{call, lent, earlier, Rebuilds};
 ghost use Rattle.picture.specs.Run.{Picture};
@@ -18,7 +19,7 @@ use planes::room_ok;
 
 mod planes; // the memory that is lent
 
-// The refusals of a macroblock call before its neighbours are looked at, whatever its kind and its chroma mode, or 0.
+// The refusals of a macroblock call before its neighbours are looked at, or 0: for every record whose lists are as long as `lists` says.
 fn refuse(
     w: u32,
     h: u32,
@@ -33,11 +34,9 @@ fn refuse(
     done: &[u8],
     slices: &[u16],
     progress: Progress,
-    modes: &[u8],
-    numbers: &[i32],
+    lists: bool,
 ) -> u32
-    ensures { λ r. ⌜ ((kind chroma : ℕ) → r ≡ earlier
-        (call w h x y «luma_stride» «cb_stride» «cr_stride» (now (slices .entry)) (recordOf kind (now (modes .entry)) chroma (now (numbers .entry))))
+    ensures { λ r. ⌜ ((m : Record) → listsGood m ≡ lists → r ≡ earlier (call w h x y «luma_stride» «cb_stride» «cr_stride» (now (slices .entry)) m)
         (lent (now (luma .entry)) (now (cb .entry)) (now (cr .entry)) (now (done .entry)) progress)) ⌝ }
 {
     if !size_ok(w, h) {
@@ -61,7 +60,7 @@ fn refuse(
     if !room {
         return 2;
     }
-    if !both(modes.len() == 16, numbers.len() == 384) {
+    if !lists {
         return 2;
     }
     if !place_ok(w, h, x, y) {
@@ -102,6 +101,7 @@ pub fn rebuild_core(
     let ls = luma_stride;
     let bs = cb_stride;
     let rs = cr_stride;
+    let lists = both(modes.len() == 16, numbers.len() == 384);
     let answer = refuse(
         w,
         h,
@@ -116,8 +116,7 @@ pub fn rebuild_core(
         done,
         slices,
         progress,
-        modes,
-        numbers,
+        lists,
     );
     if answer != 0 {
         return Outcome { answer, progress };

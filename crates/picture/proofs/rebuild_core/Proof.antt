@@ -15,6 +15,7 @@ use Rattle.maps.specs.Size.{total}
 use Rattle.maps.proofs.Beside.{marks-at}
 use Rattle.maps.proofs.Sizes.{total-most, address-inside}
 use Rattle.macroblock.specs.Kinds.{recordOf, lumaSquare, cbSquare, crSquare}
+use Rattle.macroblock.specs.Rules.{listsGood}
 use Rattle.picture.specs.Rebuild.{Call, call, Lent, lent, here, marks, recordRules, earlier}
 use Rattle.picture.proofs.Rebuilt.{refused-early, refused-5, refused-late, taken, lent-same, lent-rebuilt}
 use Rattle.picture.proofs.Rules.{Passed, passed-is, readyNow}
@@ -34,7 +35,7 @@ held s = let a = s .args in lent (a .luma .now) (a .cb .now) (a .cr .now) (a .do
 
 -- the ways back: from the first refusals, from where they are ruled out, where 5 is, and where the macroblock call has answered
 abbrev first : tie.After-refuse → tie.Start
-first c = c .before .before .before .before .before .before .before .before .before .before .before
+first c = c .before .before .before .before .before .before .before .before .before .before .before .before
 
 abbrev start : tie.Else1 → tie.Start
 start c = first (c .before)
@@ -51,8 +52,13 @@ asked c = c .before .before .before .before
 abbrev called : tie.Else3 → tie.After-rebuild
 called c = c .before .before .before .before .before .before .before
 
+-- the record's lists are as long as the test says
+long : (c : tie.After-refuse) → let a = first c .args in listsGood (recordOf (a .kind) (a .modes .now) (a .chroma-mode) (a .numbers .now)) ≡ c .before .before .before .before .before .both .result
+unfolding listsGood
+long c = sym (c .before .before .before .before .before .both .ensures)
+
 early : (c : tie.After-refuse) → c .refuse .result ≡ earlier (given (first c)) (held (first c))
-early c = let a = first c .args in c .refuse .ensures (a .kind) (a .chroma-mode)
+early c = let a = first c .args in c .refuse .ensures (recordOf (a .kind) (a .modes .now) (a .chroma-mode) (a .numbers .now)) (long c)
 
 ok-early : (c : tie.Else1) → earlier (given (start c)) (held (start c)) ≡ 0
 ok-early c = sym (early (c .before)) ∙ c .if1 .left
@@ -142,7 +148,7 @@ returns-4 c =
 
 pub rebuild-core-spec : {M : Type 1} → statement M
 rebuild-core-spec =
-    tie.close (tie.spec (λ c κs. search needs) (λ c. search needs) (λ c. search needs) (λ c. search needs) (λ c. search needs) returns
+    tie.close (tie.spec (λ c κs. search needs) (λ c κs. search needs) (λ c. search needs) (λ c. search needs) (λ c. search needs) (λ c. search needs) returns
     (λ c κs. search needs) (λ c κs. search needs) (λ c. search needs) (λ c. search needs) (λ c. search needs) (λ c. search needs) returns-2
     (λ c κs. search needs) (λ c. search needs) (λ c. search needs) (λ c. search needs) (λ c. search needs) returns-3 mul-here add-here cast-place
     slice-write-done mul-accepted (λ c κs. search needs) (λ c. search needs) (λ c. search needs) (λ c. search needs) (λ c. search needs) returns-4)

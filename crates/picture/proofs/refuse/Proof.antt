@@ -7,7 +7,6 @@ use native.Mathlib.Omega.{arith}
 use borrow.Author.Tests.{not-true, not-false}
 use Rattle.maps.specs.Size.{total, address, sizeOk, placeOk}
 use Rattle.maps.proofs.Sizes.{size-is, total-most, place-is, address-inside}
-use Rattle.macroblock.specs.Rules.{listsGood}
 use Rattle.picture.specs.Planes.{roomOk}
 use Rattle.picture.specs.Rebuild.{earlierRules}
 use borrow.Author.Needs.{needs}
@@ -16,10 +15,10 @@ use Rattle.picture.proofs.refuse.Tie as tie
 
 -- the way back from where the size is good
 abbrev start : tie.Else1 → tie.Start
-start c = c .before .before .before .before .before .before .before .before
+start c = c .before .before .before .before .before .before .before
 
 abbrev sized : tie.Else4 → tie.Else1
-sized c = c .before .before .before .before .before .before
+sized c = c .before .before .before .before .before
 
 ok-size : (c : tie.Else1) → sizeOk (start c .args .w) (start c .args .h) ≡ true
 ok-size c = sym (c .before .size-ok .ensures) ∙ not-false _ (c .if1 .left)
@@ -27,8 +26,8 @@ ok-size c = sym (c .before .size-ok .ensures) ∙ not-false _ (c .if1 .left)
 ok-room : (c : tie.Else2) → c .before .room-ok .result ≡ true
 ok-room c = not-false (c .before .room-ok .result) (c .if2 .left)
 
-ok-lists : (c : tie.Else3) → c .before .both .result ≡ true
-ok-lists c = not-false (c .before .both .result) (c .if3 .left)
+ok-lists : (c : tie.Else3) → start (c .before .before .before) .args .lists ≡ true
+ok-lists c = not-false (start (c .before .before .before) .args .lists) (c .if3 .left)
 
 ok-place : (c : tie.Else4) → let a = start (sized c) .args in placeOk (a .w) (a .h) (a .x) (a .y) ≡ true
 ok-place c = sym (c .before .place-ok .ensures) ∙ not-false _ (c .if4 .left)
@@ -41,27 +40,27 @@ within c =
 
 returns : tie.Need-returns
 unfolding earlierRules
-returns c kind chroma = rw (sym (c .before .size-ok .ensures) ∙ not-true _ (c .if1 .taken))
+returns c m good = rw (sym (c .before .size-ok .ensures) ∙ not-true _ (c .if1 .taken))
 
 room-ok-requires : tie.Need-room-ok-requires
 room-ok-requires c κs = size-is _ _ (ok-size c)
 
 returns-2 : tie.Need-returns-2
 unfolding earlierRules roomOk
-returns-2 c kind chroma = rw (ok-size (c .before .before), sym (c .before .room-ok .ensures) ∙ not-true _ (c .if2 .taken))
+returns-2 c m good = rw (ok-size (c .before .before), sym (c .before .room-ok .ensures) ∙ not-true _ (c .if2 .taken))
 
 returns-3 : tie.Need-returns-3
-unfolding earlierRules roomOk listsGood
-returns-3 c kind chroma =
-    let d = c .before .before in
-    rw (ok-size (d .before .before), sym (d .before .room-ok .ensures) ∙ ok-room d, sym (c .before .both .ensures) ∙ not-true _ (c .if3 .taken))
+unfolding earlierRules roomOk
+returns-3 c m good =
+    let d = c .before in
+    rw (ok-size (d .before .before), sym (d .before .room-ok .ensures) ∙ ok-room d, good ∙ not-true _ (c .if3 .taken))
 
 returns-4 : tie.Need-returns-4
-unfolding earlierRules roomOk listsGood
-returns-4 c kind chroma =
+unfolding earlierRules roomOk
+returns-4 c m good =
     let e = c .before .before in
-    let d = e .before .before in
-    rw (ok-size (d .before .before), sym (d .before .room-ok .ensures) ∙ ok-room d, sym (e .before .both .ensures) ∙ ok-lists e, sym (c .before .place-ok .ensures) ∙ not-true _ (c .if4 .taken))
+    let d = e .before in
+    rw (ok-size (d .before .before), sym (d .before .room-ok .ensures) ∙ ok-room d, good ∙ ok-lists e, sym (c .before .place-ok .ensures) ∙ not-true _ (c .if4 .taken))
 
 mul-here : tie.Need-mul-here
 mul-here c = omega (arith, within c)
@@ -70,22 +69,22 @@ add-here : tie.Need-add-here
 add-here c = omega (arith, within c)
 
 returns-5 : tie.Need-returns-5
-unfolding earlierRules roomOk listsGood
-returns-5 c kind chroma =
+unfolding earlierRules roomOk
+returns-5 c m good =
     let f = c .before .before in
     let e = f .before .before in
-    let d = e .before .before in
-    rw (ok-size (d .before .before), sym (d .before .room-ok .ensures) ∙ ok-room d, sym (e .before .both .ensures) ∙ ok-lists e, ok-place f, sym (c .before .is-done .ensures) ∙ c .if5 .taken)
+    let d = e .before in
+    rw (ok-size (d .before .before), sym (d .before .room-ok .ensures) ∙ ok-room d, good ∙ ok-lists e, ok-place f, sym (c .before .is-done .ensures) ∙ c .if5 .taken)
 
 returns-6 : tie.Need-returns-6
-unfolding earlierRules roomOk listsGood
-returns-6 c kind chroma =
+unfolding earlierRules roomOk
+returns-6 c m good =
     let f = c .before .before in
     let e = f .before .before in
-    let d = e .before .before in
-    rw (ok-size (d .before .before), sym (d .before .room-ok .ensures) ∙ ok-room d, sym (e .before .both .ensures) ∙ ok-lists e, ok-place f, sym (c .before .is-done .ensures) ∙ c .if5 .left)
+    let d = e .before in
+    rw (ok-size (d .before .before), sym (d .before .room-ok .ensures) ∙ ok-room d, good ∙ ok-lists e, ok-place f, sym (c .before .is-done .ensures) ∙ c .if5 .left)
 
 pub refuse-spec : {M : Type 1} → statement M
 refuse-spec =
-    tie.close (tie.spec (λ c κs. search needs) returns room-ok-requires returns-2 (λ c κs. search needs) returns-3 (λ c κs. search needs) returns-4
+    tie.close (tie.spec (λ c κs. search needs) returns room-ok-requires returns-2 returns-3 (λ c κs. search needs) returns-4
     mul-here add-here (λ c κs. search needs) returns-5 returns-6)
