@@ -130,9 +130,9 @@ module _ (p : Near) (e : List ℕ) (run : Run 8 p e) where
         choose (λ w. w ≡ v) (eqb (y % 2) 0) _ _ (λ h. f (eqb-true _ _ h)) (λ h. g (omega (arith, eqb-false (y % 2) 0 h)))
 
     -- the diagonals, from the means of three all along the run
-    module _ (line : List ℕ) (q : Line 26 (meanRound e) line) where
+    module _ (line : List ℕ) (q : Line 26 (λ j. meanIn true e (0 + j)) line) where
       in-threes : (i k : ℕ) {v : ℕ} → i ≡ 2 * k → k < 26 → getD whole i 0 ≡ v → getD line k 0 ≡ v
-      in-threes i k w h here = q .is k h ∙ three-at i k w (omega arith) ∙ here
+      in-threes i k w h here = q .is k h ∙ three-at i (0 + k) (omega arith) (omega arith) ∙ here
 
       pub is-downLeft : slid line 11 line 12 2 0 x y ≡ downLeft 8 p x y
       is-downLeft =

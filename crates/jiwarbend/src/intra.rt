@@ -160,7 +160,8 @@ pub extern "C" fn jiwarbend_chroma8x8_dc(
     out: &mut [u8],
 ) -> u32
     ensures { λ r. ⌜ r ≡ answer (2 unless now (top .entry) has 8 ∷ 2 unless now (left .entry) has 8 ∷ 2 unless now (out .entry) has 64 ∷ []) ⌝ }
-    ensures { λ r. ⌜ now (out .exit) ≡ written r (now (out .entry)) (blockOf 8 (chromaDc «avail_top» «avail_left» (near (now (top .entry)) (now (left .entry)) 0))) ⌝ }
+    ensures { λ r. ⌜ now (out .exit) ≡ written r (now (out .entry))
+        (blockOf 8 (chromaDc «avail_top» «avail_left» (near (now (top .entry)) (now (left .entry)) 0))) ⌝ }
 {
     if top.len() != 8 {
         return 2;

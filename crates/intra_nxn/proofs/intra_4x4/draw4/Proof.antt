@@ -27,6 +27,9 @@ draw4-spec =
     tie.close
     (tie.spec
     (λ c κs. search needs)
+    (λ c. search needs)
+    (λ c. search needs)
+    (λ c. search needs)
     (λ c κs. search needs)
     (λ c. search needs)
     returns

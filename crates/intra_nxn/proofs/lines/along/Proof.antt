@@ -1,18 +1,18 @@
--- `intra_nxn::lines::left_line` meets its contract. After j turns the first j places are the line's. Assumes nothing.
+-- `intra_nxn::lines::along` meets its contract. After j turns the first j places are the line's. Assumes nothing.
 use mathlib.Core.Path.{_≡_, refl}
 use Prim.Native.Nat.{_+_, _-_, _≤_}
 use native.Mathlib.Omega.{arith}
 use Rattle.intra_nxn.specs.inner.Run.{Line, meanIn}
 use Rattle.intra_nxn.proofs.Slides.{line-none, line-more}
 use borrow.Author.Needs.{needs}
-use Rattle.intra_nxn.proofs.lines.left_line.Statement.{statement}
-use Rattle.intra_nxn.proofs.lines.left_line.Tie as tie
+use Rattle.intra_nxn.proofs.lines.along.Statement.{statement}
+use Rattle.intra_nxn.proofs.lines.along.Tie as tie
 
 abbrev Inv-loop : tie.InvT-loop
-Inv-loop e first odd line₀ j₀ line j = (j ≤ 11) × Line j (λ i. meanIn odd e (first + i)) line
+Inv-loop e first count odd line₀ j₀ line j = (j ≤ count) × Line j (λ i. meanIn odd e (first + i)) line
 
 abbrev μ-loop : tie.MeasureT-loop
-μ-loop e first odd line₀ j₀ line j = 11 - j
+μ-loop e first count odd line₀ j₀ line j = count - j
 
 loop-holds : tie.Need-loop-holds Inv-loop μ-loop
 loop-holds c = (omega arith, line-none _ _ refl)
@@ -23,11 +23,11 @@ loop-again c = let l = c .before .before .loop in (omega arith, line-more (l .j)
 returns : tie.Need-returns Inv-loop μ-loop
 returns c =
     let l = c .before .loop in
-    let e : l .j ≡ 11 = omega arith in
+    let e : l .j ≡ c .before .before .args .count = omega arith in
     rw e at (l .inv .1)
 
-pub left-line-spec : {M : Type 1} → statement M
-left-line-spec =
+pub along-spec : {M : Type 1} → statement M
+along-spec =
     tie.close
     (tie.spec
     Inv-loop
