@@ -1,6 +1,6 @@
 -- The rows of an 8x8 block are windows of lines of means: what stands in the lines is what Places says of the run and its means in one list.
 -- Assumes nothing.
-use mathlib.Core.Path.{subst, _≡_, refl, sym, ap, _∙_}
+use mathlib.Core.Path.{_≡_, refl, sym, ap, _∙_}
 use mathlib.Core.Bool.{true, false, cond}
 use mathlib.Core.List.{List}
 use Prim.Native.Nat.{ℕ, _+_, _-_, _*_, _/_, _%_, _≤_, _<_}
@@ -32,9 +32,6 @@ line-more k f l h g e =
       size = simp length-set (g .size);
       is = below-more (λ j. getD (set l k _) j 0 ≡ f j) k (λ j b. getD-set-other l k j _ 0 (omega arith) ∙ g .is j b) (getD-set-same l k _ 0 (omega (arith, g .size)) ∙ e);
     }
-
-pub line-done : (k n : ℕ) {f : ℕ → ℕ} {l : List ℕ} → k ≡ n → Line k f l → Line n f l
-line-done k n {f} {l} e q = subst (λ m. Line m f l) e q
 
 -- two places of a line that takes from two rules in turn
 pub pair-more : (m : ℕ) (f g h : ℕ → ℕ) (i : ℕ) (l : List ℕ) {u v : ℕ} → 2 * i + 1 < m → m ≤ 32 → Line (2 * i) (pairs m f g h) l → u ≡ f i → v ≡ g i
@@ -133,9 +130,9 @@ module _ (p : Near) (e : List ℕ) (run : Run 8 p e) where
         choose (λ w. w ≡ v) (eqb (y % 2) 0) _ _ (λ h. f (eqb-true _ _ h)) (λ h. g (omega (arith, eqb-false (y % 2) 0 h)))
 
     -- the diagonals, from the means of three all along the run
-    module _ (line : List ℕ) (q : Line 26 (meanRound e) line) where
+    module _ (line : List ℕ) (q : Line 26 (λ j. meanIn true e (0 + j)) line) where
       in-threes : (i k : ℕ) {v : ℕ} → i ≡ 2 * k → k < 26 → getD whole i 0 ≡ v → getD line k 0 ≡ v
-      in-threes i k w h here = q .is k h ∙ three-at i k w (omega arith) ∙ here
+      in-threes i k w h here = q .is k h ∙ three-at i (0 + k) (omega arith) (omega arith) ∙ here
 
       pub is-downLeft : slid line 11 line 12 2 0 x y ≡ downLeft 8 p x y
       is-downLeft =

@@ -14,8 +14,9 @@ use super::run::mean2;
 use super::run::mean3;
 use super::run::run_of;
 use samples::line::fill;
+use samples::marks::lists_answer;
+use samples::marks::mode_answer;
 use samples::marks::permits_nxn;
-use samples::marks::pred_answer;
 
 // The answer of a call and its block in raster order, zeros where the call is refused.
 pub struct Pred4x4 {
@@ -67,8 +68,12 @@ pub fn intra4x4_pred_into(
     ensures lent { λ r. ⌜ now (out .exit) ≡ written r (now (out .entry))
         (blockOf 4 (pred4x4L mode «avail_top» «avail_left» «avail_corner» (near (now (top .entry)) (now (left .entry)) corner))) ⌝ }
 {
+    let sized = lists_answer(4, 8, top.len(), left.len(), out.len());
+    if sized != 0 {
+        return sized;
+    }
     let permitted = permits_nxn(mode, avail_top, avail_left, avail_corner);
-    let answer = pred_answer(4, 8, top.len(), left.len(), out.len(), mode, 8, permitted);
+    let answer = mode_answer(mode, 8, permitted);
     if answer != 0 {
         return answer;
     }
@@ -84,7 +89,7 @@ fn draw4(mode: u8, above: bool, left: bool, e: [u8; 81], out: &mut [u8])
 {
     if mode == 2 {
         let v = dc_of(4, &e, above, left);
-        fill(v, out);
+        fill(v, &mut out[0..16]);
         return;
     }
     let t = with_means(mode, e);

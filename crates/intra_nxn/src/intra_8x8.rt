@@ -10,16 +10,16 @@ ghost use Rattle.samples.specs.Near.{Near, near};
 ghost use Rattle.intra_nxn.specs.IntraNxN.{predNxN, pred8x8L};
 ghost use Rattle.intra_nxn.specs.inner.Run.{Run, slid};
 use super::filter::filtered_of;
+use super::lines::along;
 use super::lines::down_line;
-use super::lines::left_line;
 use super::lines::right_line;
-use super::lines::threes;
 use super::lines::up_line;
 use super::run::dc_of;
 use super::run::run_of;
 use samples::line::fill;
+use samples::marks::lists_answer;
+use samples::marks::mode_answer;
 use samples::marks::permits_nxn;
-use samples::marks::pred_answer;
 
 // The answer of a call and its block in raster order, zeros where the call is refused.
 pub struct Pred8x8 {
@@ -71,8 +71,12 @@ pub fn intra8x8_pred_into(
     ensures lent { λ r. ⌜ now (out .exit) ≡ written r (now (out .entry))
         (blockOf 8 (pred8x8L mode «avail_top» «avail_left» «avail_corner» (near (now (top .entry)) (now (left .entry)) corner))) ⌝ }
 {
+    let sized = lists_answer(8, 16, top.len(), left.len(), out.len());
+    if sized != 0 {
+        return sized;
+    }
     let permitted = permits_nxn(mode, avail_top, avail_left, avail_corner);
-    let answer = pred_answer(8, 16, top.len(), left.len(), out.len(), mode, 8, permitted);
+    let answer = mode_answer(mode, 8, permitted);
     if answer != 0 {
         return answer;
     }
@@ -96,7 +100,7 @@ fn draw8(mode: u8, above: bool, left: bool, e: &[u8; 81], out: &mut [u8])
         return;
     }
     if mode < 3 {
-        fill(dc_of(8, e, above, left), out);
+        fill(dc_of(8, e, above, left), &mut out[0..64]);
         return;
     }
     slant8(mode, e, out);
@@ -108,7 +112,7 @@ fn slant8(mode: u8, e: &[u8; 81], out: &mut [u8])
     ensures { λ _. ⌜ ((p : Near) (above left : Bool) → Run 8 p (now (e .entry)) → now (out .exit) ≡ blockOf 8 (predNxN 8 mode above left p)) ⌝ }
 {
     if mode < 5 {
-        let line = threes(e);
+        let line = along(e, 0, 26, true);
         if mode < 4 {
             slide(&line, 11, &line, 12, 2, 0, out);
             return;
@@ -128,8 +132,8 @@ fn slant8(mode: u8, e: &[u8; 81], out: &mut [u8])
         return;
     }
     if mode < 8 {
-        let even = left_line(e, 10, false);
-        let odd = left_line(e, 11, true);
+        let even = along(e, 10, 11, false);
+        let odd = along(e, 11, 11, true);
         slide(&even, 0, &odd, 0, 1, 0, out);
         return;
     }
@@ -166,8 +170,8 @@ fn moved(at: usize, up: usize, back: usize, z: usize) -> usize
 }
 
 // Eight samples of a line, from `at` on.
-fn window(line: &[u8], at: usize, row: &mut [u8])
-    requires { ⌜ (at + 8 ≤ length (now line)) × (8 ≤ length (now row)) ⌝ }
+fn window(line: &[u8; 32], at: usize, row: &mut [u8])
+    requires { ⌜ (at ≤ 24) × (8 ≤ length (now row)) ⌝ }
     ensures { λ _. ⌜ now (row .exit) ≡ onto 8 (λ i. getD (now (line .entry)) (at + i) 0) (now (row .entry)) ⌝ }
 {
     for i in 0..8 {
@@ -177,11 +181,17 @@ fn window(line: &[u8], at: usize, row: &mut [u8])
 
 // Eight rows, each the line above the block.
 fn above8(e: &[u8; 81], out: &mut [u8])
-    requires { ⌜ 64 ≤ length (now out) ⌝ }
-    ensures { λ _. ⌜ now (out .exit) ≡ onto 64 (λ k. getD (now (e .entry)) (64 + k % 8) 0) (now (out .entry)) ⌝ }
+    requires { ⌜ length (now out) ≡ 64 ⌝ }
+    ensures { λ _. ⌜ now (out .exit) ≡ blockOf 8 (λ x _. getD (now (e .entry)) (64 + x) 0) ⌝ }
 {
+    let mut row = [0u8; 8];
+    for i in 0..8 {
+        row[i] = e[64 + i];
+    }
     for y in 0..8 {
-        window(e, 64, &mut out[8 * y..]);
+        for x in 0..8 {
+            out[y * 8 + x] = row[x];
+        }
     }
 }
 

@@ -9,13 +9,14 @@ ghost use Rattle.intra_nxn.specs.inner.Run.{Line, meanRound, meanFrom, m
 use super::run::mean2;
 use super::run::mean3;
 
-// The diagonals: the means of three all along the run.
-pub(crate) fn threes(e: &[u8; 81]) -> [u8; 32]
-    ensures { λ r. ⌜ Line 26 (meanRound (now (e .entry))) r ⌝ }
+// The diagonals and Vertical left: along the run, from the given place on, the means of two, or of three, which the diagonals and odd rows take.
+pub(crate) fn along(e: &[u8; 81], first: usize, count: usize, odd: bool) -> [u8; 32]
+    requires { ⌜ first + count ≤ 26 ⌝ }
+    ensures { λ r. ⌜ Line count (λ j. meanIn odd (now (e .entry)) (first + j)) r ⌝ }
 {
     let mut line = [0u8; 32];
-    for k in 0..26 {
-        line[k] = mean_round(e, k);
+    for j in 0..count {
+        line[j] = mean_in(odd, e, first + j);
     }
     line
 }
@@ -52,24 +53,15 @@ pub(crate) fn down_line(e: &[u8; 81]) -> [u8; 32]
     line
 }
 
-// Vertical left: along the row above, from the given place on, the means of two in even rows and of three in odd ones.
-pub(crate) fn left_line(e: &[u8; 81], first: usize, odd: bool) -> [u8; 32]
-    requires { ⌜ first ≤ 11 ⌝ }
-    ensures { λ r. ⌜ Line 11 (λ j. meanIn odd (now (e .entry)) (first + j)) r ⌝ }
-{
-    let mut line = [0u8; 32];
-    for j in 0..11 {
-        line[j] = mean_in(odd, e, first + j);
-    }
-    line
-}
-
 // Horizontal up: the means of two and of three in turn down the left side, then its last sample.
 pub(crate) fn up_line(e: &[u8; 81]) -> [u8; 32]
     ensures { λ r. ⌜ Line 22 (pairs 14 (λ i. meanFrom (now (e .entry)) (7 - i)) (λ i. meanRound (now (e .entry)) (7 - i))
         (λ _. getD (now (e .entry)) 55 0)) r ⌝ }
 {
-    let mut line = [e[55]; 32];
+    let mut line = [0u8; 32];
+    for j in 14..22 {
+        line[j] = e[55];
+    }
     for i in 0..7 {
         line[2 * i] = mean_from(e, 7 - i);
         line[2 * i + 1] = mean_round(e, 7 - i);

@@ -7,8 +7,8 @@ use borrow.Rule.Slice.PartMut.{putMid, midOf, mid-len}
 use lib.ListN.{length, take, drop, replicate, length-drop, drop-of-length-le}
 use lib.Seq.{take-all}
 use Rattle.laws.specs.Table.{table, blockOf, onto}
-use Rattle.laws.proofs.Ontos.{onto-all, onto-long, onto-row}
-use Rattle.laws.proofs.Tables.{table-const, table-same}
+use Rattle.laws.proofs.Ontos.{onto-none, onto-all, onto-long, onto-row}
+use Rattle.laws.proofs.Tables.{table-const}
 
 -- every place
 pub fill-all : (k v : ℕ) (l : List ℕ) {l′ : List ℕ} → length l ≡ k → l′ ≡ onto k (λ _. v) l → l′ ≡ replicate (length l) v
@@ -28,5 +28,7 @@ fill-part a e v g l l′ {ys} less in-l q ey same =
     rw row (rw (rest, none, append-nil (table (e - a) (λ _. v) ++ drop (e - a) (drop a l′)), all) at whole)
 
 -- a whole block of one sample
-pub fill-block : (n v : ℕ) (g : ℕ → ℕ → ℕ) (l : List ℕ) {l′ : List ℕ} → length l ≡ n * n → l′ ≡ replicate (length l) v → ((x y : ℕ) → v ≡ g x y) → l′ ≡ blockOf n g
-fill-block n v g l e q same = q ∙ ap (λ k. replicate k v) e ∙ sym (table-const (n * n) v) ∙ table-same (n * n) _ _ (λ k _. same (k % n) (k / n))
+pub fill-block : (n v : ℕ) (g : ℕ → ℕ → ℕ) (l : List ℕ) {ys : List ℕ} → length l ≡ n * n → ys ≡ replicate (length (midOf 0 (n * n - 0) l)) v → ((x y : ℕ) → v ≡ g x y)
+    → putMid 0 (n * n - 0) l ys ≡ blockOf n g
+fill-block n v g l e q same =
+    fill-part 0 (n * n) v (λ k. g (k % n) (k / n)) l l (omega arith) (omega arith) (onto-none _ l) q (λ i _. same ((0 + i) % n) ((0 + i) / n)) ∙ onto-all (n * n) _ l e

@@ -2,7 +2,7 @@
 -- mode. Assumes nothing.
 use mathlib.Core.Path.{_≡_, refl, sym, ap, _∙_}
 use mathlib.Core.Bool.{Bool, true, false, not, cond, _&&_}
-use mathlib.Core.List.{List, [], _∷_}
+use mathlib.Core.List.{[], _∷_}
 use mathlib.Core.Logic.{⊎-elim}
 use Prim.Native.Nat.{ℕ, zero, suc, _+_, _-_, _*_, _/_, _%_, _^_, _≤_, _<_}
 use native.Mathlib.Omega.{arith}
@@ -12,10 +12,10 @@ use lib.Dec.{T, eqb, ltb, leb, lit<, ltb→lt}
 use lib.Bits.{bitAnd, bitOr, and-high}
 use lib.Pow.{pow-pos, pow-mono, pow-add, shl-exact}
 use borrow.Author.Tests.{ne-eqb, lt-ltb, le-ltb, leb-true, eqb-true}
-use Rattle.laws.specs.Answer.{Check, _unless_, answer}
+use Rattle.laws.specs.Answer.{_unless_, answer}
 use Rattle.laws.specs.Table.{sumOf}
 use Rattle.laws.proofs.Answers.{passes}
-use Rattle.samples.specs.Marks.{permittedNxN, permitted16x16, permittedChroma, modeSet, predAnswer, bit, BitOfSet}
+use Rattle.samples.specs.Marks.{permittedNxN, permitted16x16, permittedChroma, modeSet, listsAnswer, predAnswer, bit, BitOfSet}
 
 -- ---- bits of a sum
 -- a power of two above bit m leaves it, and the power of two at bit m sets it
@@ -132,33 +132,43 @@ past-16x16 a l c m h = rw (other 4 m 0 h tt, other 4 m 1 h tt, other 4 m 2 h tt,
 pub past-chroma : (a l c : Bool) (m : ℕ) → 3 < m → permittedChroma a l c m ≡ false
 past-chroma a l c m h = rw (other 4 m 0 h tt, other 4 m 1 h tt, other 4 m 2 h tt, other 4 m 3 h tt)
 
--- ---- the answer of a predictor that is handed lists, and what the answer 0 says of them and of the mode
+-- ---- the answer of a predictor that is handed lists
+-- once over the three tests of the lengths
+abbrev lists : Bool → Bool → Bool → ℕ → ℕ
+lists a b c r = cond a (cond b (cond c r 2) 2) 2
+
+lists-no : (a b c : Bool) (r : ℕ) → (lists a b c 0 ≡ 0 → ⊥) → lists a b c 0 ≡ lists a b c r
+lists-no true true true r f = absurd (f refl)
+lists-no true true false r f = refl
+lists-no true false c r f = refl
+lists-no false b c r f = refl
+
+lists-yes : (a b c : Bool) → lists a b c 0 ≡ 0 → (a ≡ true) × (b ≡ true) × (c ≡ true)
+lists-yes true true true e = (refl, refl, refl)
+lists-yes true true false e = absurd (omega arith)
+lists-yes true false c e = absurd (omega arith)
+lists-yes false b c e = absurd (omega arith)
+
+-- what is known where the lists have their lengths
 pub record Answered (n wide above left lent last : ℕ) (permitted : ℕ → Bool) (mode r : ℕ) : Type 0 where
   pub is : r ≡ predAnswer n wide above left lent last permitted mode
-  pub top-is : r ≡ 0 → above ≡ wide
-  pub left-is : r ≡ 0 → left ≡ n
-  pub out-is : r ≡ 0 → lent ≡ n * n
+  pub top-is : above ≡ wide
+  pub left-is : left ≡ n
+  pub out-is : lent ≡ n * n
   pub known : r ≡ 0 → mode ≤ last
 
-pub answered : (n wide above left lent last : ℕ) (permitted : ℕ → Bool) (mode : ℕ) {r : ℕ} {b : Bool} → r ≡ predAnswer n wide above left lent last (λ _. b) mode
-    → b ≡ permitted mode → Answered n wide above left lent last permitted mode r
-answered n wide above left lent last permitted mode {r} {b} e f =
-    record {
-      is = e ∙ ap (λ t. predAnswer n wide above left lent last (λ _. t) mode) f;
-      top-is = λ z. eqb-true above wide (one z .0);
-      left-is = λ z. eqb-true left n (two z .0);
-      out-is = λ z. eqb-true lent (n * n) (three z .0);
-      known = λ z. leb-true mode last (passes 5 (leb mode last) (7 unless b ∷ []) (three z .1) .0);
-    }
-  where
-    rest : List Check
-    rest = 2 unless eqb lent (n * n) ∷ 6 unless leb mode last ∷ 7 unless b ∷ []
+module _ (n wide above left lent last : ℕ) (permitted : ℕ → Bool) (mode : ℕ) where
+  pub unanswered : {s : ℕ} → s ≡ listsAnswer n wide above left lent → (s ≡ 0 → ⊥) → s ≡ predAnswer n wide above left lent last permitted mode
+  unanswered e f = e ∙ lists-no (eqb above wide) (eqb left n) (eqb lent (n * n)) _ (λ z. f (e ∙ z))
 
-    one : r ≡ 0 → (eqb above wide ≡ true) × (answer (2 unless eqb left n ∷ rest) ≡ 0)
-    one z = passes 1 (eqb above wide) (2 unless eqb left n ∷ rest) (sym e ∙ z)
-
-    two : r ≡ 0 → (eqb left n ≡ true) × (answer rest ≡ 0)
-    two z = passes 1 (eqb left n) rest (one z .1)
-
-    three : r ≡ 0 → (eqb lent (n * n) ≡ true) × (answer (6 unless leb mode last ∷ 7 unless b ∷ []) ≡ 0)
-    three z = passes 1 (eqb lent (n * n)) (6 unless leb mode last ∷ 7 unless b ∷ []) (two z .1)
+  pub answered : {s r : ℕ} {b : Bool} → s ≡ listsAnswer n wide above left lent → s ≡ 0 → r ≡ answer (6 unless leb mode last ∷ 7 unless b ∷ []) → b ≡ permitted mode
+      → Answered n wide above left lent last permitted mode r
+  answered {s} {r} {b} e z q f =
+      let (one, two, three) = lists-yes (eqb above wide) (eqb left n) (eqb lent (n * n)) (sym e ∙ z) in
+      record {
+        is = rw (one, two, three) (q ∙ ap (λ t. answer (6 unless leb mode last ∷ 7 unless t ∷ [])) f);
+        top-is = eqb-true above wide one;
+        left-is = eqb-true left n two;
+        out-is = eqb-true lent (n * n) three;
+        known = λ y. leb-true mode last (passes 5 (leb mode last) (7 unless b ∷ []) (sym q ∙ y) .0);
+      }

@@ -44,6 +44,9 @@ abbrev pub modeAnswer : ℕ → (ℕ → Bool) → ℕ → ℕ
 modeAnswer last permitted mode = answer (6 unless leb mode last ∷ 7 unless permitted mode ∷ [])
 
 -- the answer of one that is handed lists, by their lengths: 2 unless there are `wide` samples above, n left and n * n in the block, and then the same
+abbrev pub listsAnswer : ℕ → ℕ → ℕ → ℕ → ℕ → ℕ
+listsAnswer n wide above left lent = answer (2 unless eqb above wide ∷ 2 unless eqb left n ∷ 2 unless eqb lent (n * n) ∷ [])
+
 abbrev pub predAnswer : ℕ → ℕ → ℕ → ℕ → ℕ → ℕ → (ℕ → Bool) → ℕ → ℕ
 predAnswer n wide above left lent last permitted mode =
     answer (2 unless eqb above wide ∷ 2 unless eqb left n ∷ 2 unless eqb lent (n * n) ∷ 6 unless leb mode last ∷ 7 unless permitted mode ∷ [])

@@ -12,8 +12,9 @@ use super::line::across;
 use super::line::down;
 use super::line::fill;
 use super::line::sum_of;
+use super::marks::lists_answer;
+use super::marks::mode_answer;
 use super::marks::permits_16x16;
-use super::marks::pred_answer;
 use super::mean::mean_of;
 use super::plane_mode::plane_over;
 
@@ -74,8 +75,12 @@ pub fn luma16x16_pred_into(
     ensures lent { λ r. ⌜ now (out .exit) ≡ written r (now (out .entry))
         (blockOf 16 (predL mode «avail_top» «avail_left» (near (now (top .entry)) (now (left .entry)) corner))) ⌝ }
 {
+    let sized = lists_answer(16, 16, top.len(), left.len(), out.len());
+    if sized != 0 {
+        return sized;
+    }
     let permitted = permits_16x16(mode, avail_top, avail_left, avail_corner);
-    let answer = pred_answer(16, 16, top.len(), left.len(), out.len(), mode, 3, permitted);
+    let answer = mode_answer(mode, 3, permitted);
     if answer != 0 {
         return answer;
     }

@@ -6,7 +6,7 @@ ghost use mathlib.Core.List.{[], _∷_};
 ghost use Prim.Native.Nat.{_<_};
 ghost use lib.Dec.{eqb, leb};
 ghost use Rattle.laws.specs.Answer.{_unless_, answer};
-ghost use Rattle.samples.specs.Marks.{permittedNxN, permitted16x16, permittedChroma, modeSet, bit, predAnswer};
+ghost use Rattle.samples.specs.Marks.{permittedNxN, permitted16x16, permittedChroma, modeSet, bit, listsAnswer};
 
 // The permitted modes of a 4x4 luma block.
 pub fn permitted_4x4(avail_top: bool, avail_left: bool, avail_corner: bool) -> u16
@@ -77,7 +77,7 @@ pub(crate) fn has_mode(set: u16, mode: u8) -> bool
 }
 
 // A predictor's answer, by whether the mode is permitted: 6 for a mode above the last, 7 for one that is not permitted, else 0.
-pub(crate) fn mode_answer(mode: u8, last: u8, permitted: bool) -> u32
+pub fn mode_answer(mode: u8, last: u8, permitted: bool) -> u32
     ensures { λ r. ⌜ r ≡ answer (6 unless leb mode last ∷ 7 unless permitted ∷ []) ⌝ }
 {
     if mode > last {
@@ -89,19 +89,10 @@ pub(crate) fn mode_answer(mode: u8, last: u8, permitted: bool) -> u32
     7
 }
 
-// The same for a predictor of blocks of side n that is handed lists, by their lengths: 2 unless there are `wide` samples above, n left and n * n in the
-// block.
-pub fn pred_answer(
-    n: u8,
-    wide: usize,
-    above: usize,
-    left: usize,
-    lent: usize,
-    mode: u8,
-    last: u8,
-    permitted: bool,
-) -> u32
-    ensures { λ r. ⌜ r ≡ predAnswer n wide above left lent last (λ _. permitted) mode ⌝ }
+// The answer on the lists that a predictor of blocks of side n is handed, by their lengths: 2 unless there are `wide` samples above, n left and n * n in
+// the block.
+pub fn lists_answer(n: u8, wide: usize, above: usize, left: usize, lent: usize) -> u32
+    ensures { λ r. ⌜ r ≡ listsAnswer n wide above left lent ⌝ }
 {
     let side = n as usize;
     if above != wide {
@@ -113,7 +104,7 @@ pub fn pred_answer(
     if lent != side * side {
         return 2;
     }
-    mode_answer(mode, last, permitted)
+    0
 }
 
 // The nine modes of 4x4 and 8x8 luma blocks.

@@ -4,6 +4,7 @@ use Prim.Native.Nat.{ℕ, _+_, _-_}
 use native.Mathlib.Omega.{arith}
 use denote.Ref.{now}
 use lib.ListN.{getD}
+use Rattle.laws.proofs.Blocks.{block-same}
 use Rattle.samples.proofs.Lines.{fill-block}
 use Rattle.intra_nxn.specs.IntraNxN.{predNxN}
 use Rattle.intra_nxn.proofs.Slides.{rows-are}
@@ -18,7 +19,7 @@ returns c p run =
     let z = d .before .before .before .before in
     let e = now (z .args .e) in
     let h : z .args .mode ≡ 0 = omega arith in
-    rows-are 8 (λ x y. getD e (64 + x) 0) (predNxN 8 (z .args .mode) (z .args .above) (z .args .left) p) (now (z .args .out)) (z .pre .1) (d .above8 .ensures)
+    d .above8 .ensures ∙ block-same 8 (λ x _. getD e (64 + x) 0) (predNxN 8 (z .args .mode) (z .args .above) (z .args .left) p)
     (λ x y hx hy. rw h (ap (λ (k : ℕ). getD e k 0) (omega arith) ∙ run .above (x + 1) (omega arith)))
 
 returns-2 : tie.Need-returns-2
@@ -46,5 +47,20 @@ returns-4 c p run = c .before .before .slant8 .ensures p _ _ run
 pub draw8-spec : {M : Type 1} → statement M
 draw8-spec =
     tie.close
-    (tie.spec (λ c κs. search needs) (λ c. search needs) returns (λ c κs. search needs) (λ c. search needs) returns-2 (λ c κs. search needs)
-    (λ c κs. search needs) (λ c. search needs) returns-3 (λ c κs. search needs) (λ c. search needs) returns-4)
+    (tie.spec
+    (λ c κs. search needs)
+    (λ c. search needs)
+    returns
+    (λ c κs. search needs)
+    (λ c. search needs)
+    returns-2
+    (λ c κs. search needs)
+    (λ c. search needs)
+    (λ c. search needs)
+    (λ c. search needs)
+    (λ c κs. search needs)
+    (λ c. search needs)
+    returns-3
+    (λ c κs. search needs)
+    (λ c. search needs)
+    returns-4)

@@ -1,37 +1,57 @@
--- `intra_nxn::intra_8x8::intra8x8_pred_into` meets its contract: the answer, and where it is 0, the block, drawn from the filtered run. Assumes nothing.
+-- `intra_nxn::intra_8x8::intra8x8_pred_into` meets its contract: the answers in their order, and where both are 0, the block, drawn from the filtered run. Assumes nothing.
 use mathlib.Core.Path.{sym, _∙_}
 use denote.Ref.{now}
 use lib.Dec.{lit≤}
 use lib.ListN.{length}
 use Rattle.laws.proofs.Answers.{refused}
 use Rattle.samples.specs.Marks.{permittedNxN}
-use Rattle.samples.proofs.Modes.{Answered, answered}
+use Rattle.samples.proofs.Modes.{Answered, unanswered, answered}
 use borrow.Author.Needs.{needs}
 use Rattle.intra_nxn.proofs.intra_8x8.intra8x8_pred_into.Statement.{statement}
 use Rattle.intra_nxn.proofs.intra_8x8.intra8x8_pred_into.Tie as tie
 
-said : (c : tie.After-pred-answer) → let a = c .before .before .before .before .before .args in
-    Answered 8 16 (length (now (a .top))) (length (now (a .left))) (length (now (a .out))) 8 (permittedNxN (a .avail-top) (a .avail-left) (a .avail-corner)) (a .mode) (c .pred-answer .result)
-said c = answered 8 16 _ _ _ 8 _ _ (c .pred-answer .ensures) (c .before .permits-nxn .ensures)
+said : (c : tie.After-mode-answer) → let a = c .before .before .before .before .before .before .before .args in
+    Answered 8 16 (length (now (a .top))) (length (now (a .left))) (length (now (a .out))) 8 (permittedNxN (a .avail-top) (a .avail-left) (a .avail-corner)) (a .mode)
+    (c .mode-answer .result)
+said c =
+    let g = c .before .before in
+    answered 8 16 _ _ _ 8 _ _ (g .before .lists-answer .ensures) (g .if1 .left) (c .mode-answer .ensures) (c .before .permits-nxn .ensures)
 
 returns : tie.Need-returns
-returns c = (said (c .before) .is, sym (refused _ _ _ (c .if1 .taken)))
-
-run-of-requires : tie.Need-run-of-requires
-run-of-requires c κs = let s = said (c .before) in (lit≤ tt, lit≤ tt, s .top-is (c .if1 .left), s .left-is (c .if1 .left))
-
-draw8-requires : tie.Need-draw8-requires
-draw8-requires c κs = let n = c .before .before .before .before .before in let s = said (n .before) in (s .known (n .if1 .left), s .out-is (n .if1 .left))
+returns c =
+    let a = c .before .before .before .before .before .args in (
+      unanswered 8 16 (length (now (a .top))) (length (now (a .left))) (length (now (a .out))) 8 (permittedNxN (a .avail-top) (a .avail-left) (a .avail-corner)) (a .mode)
+          (c .before .lists-answer .ensures) (c .if1 .taken),
+      sym (refused _ _ _ (c .if1 .taken)),
+    )
 
 returns-2 : tie.Need-returns-2
-returns-2 c =
+returns-2 c = (said (c .before) .is, sym (refused _ _ _ (c .if2 .taken)))
+
+run-of-requires : tie.Need-run-of-requires
+run-of-requires c κs = let s = said (c .before) in (lit≤ tt, lit≤ tt, s .top-is, s .left-is)
+
+draw8-requires : tie.Need-draw8-requires
+draw8-requires c κs = let n = c .before .before .before .before .before in let s = said (n .before) in (s .known (n .if2 .left), s .out-is)
+
+returns-3 : tie.Need-returns-3
+returns-3 c =
     let d = c .before .before in
     let f = d .before .before .before in
     let e = f .before .before in
-    (sym (e .before .if1 .left) ∙ said (e .before .before) .is, d .draw8 .ensures _ (f .filtered-of .ensures _ (e .run-of .ensures)))
+    (sym (e .before .if2 .left) ∙ said (e .before .before) .is, d .draw8 .ensures _ (f .filtered-of .ensures _ (e .run-of .ensures)))
 
 pub intra8x8-pred-into-spec : {M : Type 1} → statement M
 intra8x8-pred-into-spec =
     tie.close
-    (tie.spec (λ c κs. search needs) (λ c κs. search needs) returns run-of-requires (λ c κs. search needs) draw8-requires (λ c. search needs)
-    returns-2)
+    (tie.spec
+    (λ c κs. search needs)
+    returns
+    (λ c κs. search needs)
+    (λ c κs. search needs)
+    returns-2
+    run-of-requires
+    (λ c κs. search needs)
+    draw8-requires
+    (λ c. search needs)
+    returns-3)

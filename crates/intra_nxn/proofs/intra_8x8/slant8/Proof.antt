@@ -16,10 +16,10 @@ returns c p a l run =
     let b = d .before .before .before .before in
     let t = b .before in
     let z = t .before .before .before in
-    let r = t .threes .result in
+    let r = t .along .result in
     let h : z .args .mode ≡ 3 = omega (arith, z .pre .0, b .if2 .taken) in
     rows-are 8 (λ x y. slid r 11 r 12 2 0 x y) (predNxN 8 (z .args .mode) a l p) (now (z .args .out)) (z .pre .2) (d .slide .ensures)
-    (λ x y hx hy. rw h (is-downLeft p (now (z .args .e)) run x y hx hy r (t .threes .ensures)))
+    (λ x y hx hy. rw h (is-downLeft p (now (z .args .e)) run x y hx hy r (t .along .ensures)))
 
 returns-2 : tie.Need-returns-2
 unfolding predNxN
@@ -28,10 +28,10 @@ returns-2 c p a l run =
     let b = d .before .before .before .before in
     let t = b .before in
     let z = t .before .before .before in
-    let r = t .threes .result in
+    let r = t .along .result in
     let h : z .args .mode ≡ 4 = omega (arith, t .before .if1 .taken, b .if2 .left) in
     rows-are 8 (λ x y. slid r 9 r 8 0 2 x y) (predNxN 8 (z .args .mode) a l p) (now (z .args .out)) (z .pre .2) (d .slide2 .ensures)
-    (λ x y hx hy. rw h (is-downRight p (now (z .args .e)) run x y hx hy r (t .threes .ensures)))
+    (λ x y hx hy. rw h (is-downRight p (now (z .args .e)) run x y hx hy r (t .along .ensures)))
 
 returns-3 : tie.Need-returns-3
 unfolding predNxN
@@ -66,8 +66,8 @@ returns-5 c p a l run =
     let b = f .before in
     let z = b .before .before .before .before .before in
     let h : z .args .mode ≡ 7 = omega (arith, b .before .if4 .left, b .if5 .taken) in
-    rows-are 8 (λ x y. slid (f .left-line .result) 0 (o .left-line2 .result) 0 1 0 x y) (predNxN 8 (z .args .mode) a l p) (now (z .args .out)) (z .pre .2)
-    (d .slide5 .ensures) (λ x y hx hy. rw h (is-verticalLeft p (now (z .args .e)) run x y hx hy _ _ (f .left-line .ensures) (o .left-line2 .ensures)))
+    rows-are 8 (λ x y. slid (f .along2 .result) 0 (o .along3 .result) 0 1 0 x y) (predNxN 8 (z .args .mode) a l p) (now (z .args .out)) (z .pre .2)
+    (d .slide5 .ensures) (λ x y hx hy. rw h (is-verticalLeft p (now (z .args .e)) run x y hx hy _ _ (f .along2 .ensures) (o .along3 .ensures)))
 
 returns-6 : tie.Need-returns-6
 unfolding predNxN
@@ -84,7 +84,29 @@ returns-6 c p a l run =
 pub slant8-spec : {M : Type 1} → statement M
 slant8-spec =
     tie.close
-    (tie.spec (λ c κs. search needs) (λ c κs. search needs) (λ c. search needs) returns (λ c κs. search needs) (λ c. search needs) returns-2
-    (λ c κs. search needs) (λ c κs. search needs) (λ c κs. search needs) (λ c. search needs) returns-3 (λ c κs. search needs) (λ c κs. search needs)
-    (λ c. search needs) returns-4 (λ c κs. search needs) (λ c κs. search needs) (λ c κs. search needs) (λ c. search needs) returns-5
-    (λ c κs. search needs) (λ c κs. search needs) (λ c. search needs) returns-6)
+    (tie.spec
+    (λ c κs. search needs)
+    (λ c κs. search needs)
+    (λ c. search needs)
+    returns
+    (λ c κs. search needs)
+    (λ c. search needs)
+    returns-2
+    (λ c κs. search needs)
+    (λ c κs. search needs)
+    (λ c κs. search needs)
+    (λ c. search needs)
+    returns-3
+    (λ c κs. search needs)
+    (λ c κs. search needs)
+    (λ c. search needs)
+    returns-4
+    (λ c κs. search needs)
+    (λ c κs. search needs)
+    (λ c κs. search needs)
+    (λ c. search needs)
+    returns-5
+    (λ c κs. search needs)
+    (λ c κs. search needs)
+    (λ c. search needs)
+    returns-6)

@@ -31,9 +31,9 @@ loop-again : tie.Need-loop-again Inv-loop μ-loop
 loop-again c =
     let w₂ = c .before .before in
     let m₂ = w₂ .before .before in
-    let w₁ = m₂ .before .before .before .before in
+    let w₁ = m₂ .before .before .before in
     let m₁ = w₁ .before .before in
-    let b = m₁ .before .before .before in
+    let b = m₁ .before .before in
     let a = b .before .before .args in
     let z = b .loop .z in
     let next : 16 * z + 8 + 8 ≡ 16 * (z + 1) = omega arith in
@@ -53,6 +53,25 @@ returns c =
 pub slide-spec : {M : Type 1} → statement M
 slide-spec =
     tie.close
-    (tie.spec Inv-loop μ-loop loop-holds (λ c κs. search needs) (λ c. search needs) (λ c. search needs) (λ c. search needs) (λ c. search needs)
-    window-requires (λ c κs. search needs) (λ c. search needs) (λ c. search needs) (λ c. search needs) (λ c. search needs) (λ c. search needs)
-    window-requires-2 (λ c. search needs) (λ c. search needs) loop-again (λ c. search needs) returns)
+    (tie.spec
+    Inv-loop
+    μ-loop
+    loop-holds
+    (λ c κs. search needs)
+    (λ c. search needs)
+    (λ c. search needs)
+    (λ c. search needs)
+    (λ c. search needs)
+    window-requires
+    (λ c κs. search needs)
+    (λ c. search needs)
+    (λ c. search needs)
+    (λ c. search needs)
+    (λ c. search needs)
+    (λ c. search needs)
+    window-requires-2
+    (λ c. search needs)
+    (λ c. search needs)
+    loop-again
+    (λ c. search needs)
+    returns)

@@ -1,4 +1,4 @@
--- `samples::intra_chroma::chroma8x8_pred_into` meets its contract: the answer, and where it is 0, the block. Assumes nothing.
+-- `samples::intra_chroma::chroma8x8_pred_into` meets its contract: the answers in their order, and where both are 0, the block. Assumes nothing.
 use mathlib.Core.Path.{sym, _∙_}
 use native.Mathlib.Omega.{arith}
 use denote.Ref.{now}
@@ -6,32 +6,48 @@ use lib.ListN.{length}
 use Rattle.laws.proofs.Answers.{refused}
 use Rattle.laws.proofs.Ontos.{onto-all}
 use Rattle.samples.specs.Marks.{permittedChroma}
-use Rattle.samples.proofs.Modes.{Answered, answered}
+use Rattle.samples.proofs.Modes.{Answered, unanswered, answered}
 use borrow.Author.Needs.{needs}
 use Rattle.samples.proofs.intra_chroma.chroma8x8_pred_into.Statement.{statement}
 use Rattle.samples.proofs.intra_chroma.chroma8x8_pred_into.Tie as tie
 
-said : (c : tie.After-pred-answer) → let a = c .before .before .before .before .before .args in
-    Answered 8 8 (length (now (a .top))) (length (now (a .left))) (length (now (a .out))) 3 (permittedChroma (a .avail-top) (a .avail-left) (a .avail-corner)) (a .mode) (c .pred-answer .result)
-said c = answered 8 8 _ _ _ 3 _ _ (c .pred-answer .ensures) (c .before .permits-chroma .ensures)
+said : (c : tie.After-mode-answer) → let a = c .before .before .before .before .before .before .before .args in
+    Answered 8 8 (length (now (a .top))) (length (now (a .left))) (length (now (a .out))) 3 (permittedChroma (a .avail-top) (a .avail-left) (a .avail-corner)) (a .mode)
+    (c .mode-answer .result)
+said c =
+    let g = c .before .before in
+    answered 8 8 _ _ _ 3 _ _ (g .before .lists-answer .ensures) (g .if1 .left) (c .mode-answer .ensures) (c .before .permits-chroma .ensures)
 
 returns : tie.Need-returns
-returns c = (said (c .before) .is, sym (refused _ _ _ (c .if1 .taken)))
-
-predict-chroma-requires : tie.Need-predict-chroma-requires
-predict-chroma-requires c κs =
-    let s = said (c .before .before) in
-    let z = c .before .if1 .left in
-    (s .known z, omega (arith, s .top-is z), omega (arith, s .left-is z), omega (arith, s .out-is z))
+returns c =
+    let a = c .before .before .before .before .before .args in (
+      unanswered 8 8 (length (now (a .top))) (length (now (a .left))) (length (now (a .out))) 3 (permittedChroma (a .avail-top) (a .avail-left) (a .avail-corner)) (a .mode)
+          (c .before .lists-answer .ensures) (c .if1 .taken),
+      sym (refused _ _ _ (c .if1 .taken)),
+    )
 
 returns-2 : tie.Need-returns-2
-returns-2 c =
-    let d = c .before .before in
-    let n = d .before .before in
-    let s = said (n .before) in
-    (sym (n .if1 .left) ∙ s .is, d .predict-chroma .ensures ∙ onto-all 64 _ (now (n .before .before .before .before .before .before .args .out)) (s .out-is (n .if1 .left)))
+returns-2 c = (said (c .before) .is, sym (refused _ _ _ (c .if2 .taken)))
+
+predict-chroma-requires : tie.Need-predict-chroma-requires
+predict-chroma-requires c κs = let s = said (c .before .before) in (s .known (c .before .if2 .left), omega (arith, s .top-is), omega (arith, s .left-is), omega (arith, s .out-is))
+
+returns-3 : tie.Need-returns-3
+returns-3 c =
+    let n = c .before .before .before .before in (
+      sym (n .if2 .left) ∙ said (n .before) .is,
+      c .before .before .predict-chroma .ensures ∙ onto-all 64 _ (now (n .before .before .before .before .before .before .before .before .args .out)) (said (n .before) .out-is),
+    )
 
 pub chroma8x8-pred-into-spec : {M : Type 1} → statement M
 chroma8x8-pred-into-spec =
     tie.close
-    (tie.spec (λ c κs. search needs) (λ c κs. search needs) returns predict-chroma-requires (λ c. search needs) returns-2)
+    (tie.spec
+    (λ c κs. search needs)
+    returns
+    (λ c κs. search needs)
+    (λ c κs. search needs)
+    returns-2
+    predict-chroma-requires
+    (λ c. search needs)
+    returns-3)

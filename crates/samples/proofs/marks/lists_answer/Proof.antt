@@ -1,10 +1,9 @@
--- `samples::marks::pred_answer` meets its contract: its tests are the rules' in their order. Assumes nothing.
+-- `samples::marks::lists_answer` meets its contract: its tests are the rules' in their order. Assumes nothing.
 use native.Mathlib.Nat.{mul-le-mul}
 use native.Mathlib.Omega.{arith}
 use borrow.Author.Tests.{eq-eqb, ne-eqb}
-use borrow.Author.Needs.{needs}
-use Rattle.samples.proofs.marks.pred_answer.Statement.{statement}
-use Rattle.samples.proofs.marks.pred_answer.Tie as tie
+use Rattle.samples.proofs.marks.lists_answer.Statement.{statement}
+use Rattle.samples.proofs.marks.lists_answer.Tie as tie
 
 returns : tie.Need-returns
 returns c = rw (ne-eqb _ _ (c .if1 .taken))
@@ -19,9 +18,14 @@ returns-3 : tie.Need-returns-3
 returns-3 c = rw (eq-eqb _ _ (c .before .before .if1 .left), eq-eqb _ _ (c .before .if2 .left), ne-eqb _ _ (c .if3 .taken))
 
 returns-4 : tie.Need-returns-4
-returns-4 c = rw (eq-eqb _ _ (c .before .before .before .if1 .left), eq-eqb _ _ (c .before .before .if2 .left), eq-eqb _ _ (c .before .if3 .left)) (c .mode-answer .ensures)
+returns-4 c = rw (eq-eqb _ _ (c .before .before .if1 .left), eq-eqb _ _ (c .before .if2 .left), eq-eqb _ _ (c .if3 .left))
 
-pub pred-answer-spec : {M : Type 1} → statement M
-pred-answer-spec =
+pub lists-answer-spec : {M : Type 1} → statement M
+lists-answer-spec =
     tie.close
-    (tie.spec returns returns-2 mul-if3 returns-3 (λ c κs. search needs) returns-4)
+    (tie.spec
+    returns
+    returns-2
+    mul-if3
+    returns-3
+    returns-4)
