@@ -19,7 +19,4 @@ returns c =
 pub intra4x4-pred-spec : {M : Type 1} → statement M
 intra4x4-pred-spec =
     tie.close
-    (tie.spec
-    (λ c. search needs)
-    (λ c κs. search needs)
-    returns)
+    (tie.spec (λ c. search needs) (λ c κs. search needs) returns)

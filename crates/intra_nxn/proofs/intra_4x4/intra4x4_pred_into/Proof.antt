@@ -43,13 +43,5 @@ returns-3 c =
 pub intra4x4-pred-into-spec : {M : Type 1} → statement M
 intra4x4-pred-into-spec =
     tie.close
-    (tie.spec
-    (λ c κs. search needs)
-    returns
-    (λ c κs. search needs)
-    (λ c κs. search needs)
-    returns-2
-    run-of-requires
-    draw4-requires
-    (λ c. search needs)
-    returns-3)
+    (tie.spec (λ c κs. search needs) returns (λ c κs. search needs) (λ c κs. search needs) returns-2 run-of-requires draw4-requires
+    (λ c. search needs) returns-3)

@@ -63,31 +63,7 @@ returns c = block-all (c .before .loop2 .y * 8) (omega arith) (c .before .loop2 
 pub above8-spec : {M : Type 1} → statement M
 above8-spec =
     tie.close
-    (tie.spec
-    Inv-loop
-    μ-loop
-    Inv-loop3
-    μ-loop3
-    Inv-loop2
-    μ-loop2
-    loop-holds
-    (λ c. search needs)
-    (λ c. search needs)
-    (λ c. search needs)
-    (λ c. search needs)
-    (λ c. search needs)
-    loop-again
-    loop2-holds
-    loop3-holds
-    (λ c. search needs)
-    (λ c. search needs)
-    (λ c. search needs)
-    (λ c. search needs)
-    (λ c. search needs)
-    (λ c. search needs)
-    loop3-again
-    (λ c. search needs)
-    (λ c. search needs)
-    loop2-again
-    (λ c. search needs)
+    (tie.spec Inv-loop μ-loop Inv-loop3 μ-loop3 Inv-loop2 μ-loop2 loop-holds (λ c. search needs) (λ c. search needs) (λ c. search needs)
+    (λ c. search needs) (λ c. search needs) loop-again loop2-holds loop3-holds (λ c. search needs) (λ c. search needs) (λ c. search needs)
+    (λ c. search needs) (λ c. search needs) (λ c. search needs) loop3-again (λ c. search needs) (λ c. search needs) loop2-again (λ c. search needs)
     returns)

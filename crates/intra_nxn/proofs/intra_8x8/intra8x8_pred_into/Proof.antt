@@ -44,14 +44,5 @@ returns-3 c =
 pub intra8x8-pred-into-spec : {M : Type 1} → statement M
 intra8x8-pred-into-spec =
     tie.close
-    (tie.spec
-    (λ c κs. search needs)
-    returns
-    (λ c κs. search needs)
-    (λ c κs. search needs)
-    returns-2
-    run-of-requires
-    (λ c κs. search needs)
-    draw8-requires
-    (λ c. search needs)
-    returns-3)
+    (tie.spec (λ c κs. search needs) returns (λ c κs. search needs) (λ c κs. search needs) returns-2 run-of-requires (λ c κs. search needs)
+    draw8-requires (λ c. search needs) returns-3)

@@ -27,9 +27,4 @@ returns c = (refl, omega (arith, steps c))
 pub moved-spec : {M : Type 1} → statement M
 moved-spec =
     tie.close
-    (tie.spec
-    mul-result
-    add-result
-    mul-result-2
-    sub-result
-    returns)
+    (tie.spec mul-result add-result mul-result-2 sub-result returns)

@@ -12,8 +12,4 @@ returns-2 c = rw (c .before .if1 .left) (c .mean-from .ensures)
 pub mean-in-spec : {M : Type 1} → statement M
 mean-in-spec =
     tie.close
-    (tie.spec
-    (λ c κs. search needs)
-    (λ c κs. search needs)
-    returns
-    returns-2)
+    (tie.spec (λ c κs. search needs) (λ c κs. search needs) returns returns-2)

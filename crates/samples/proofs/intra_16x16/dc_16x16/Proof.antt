@@ -16,8 +16,4 @@ returns c corner =
 pub dc-16x16-spec : {M : Type 1} → statement M
 dc-16x16-spec =
     tie.close
-    (tie.spec
-    (λ c κs. search needs)
-    (λ c κs. search needs)
-    (λ c κs. search needs)
-    returns)
+    (tie.spec (λ c κs. search needs) (λ c κs. search needs) (λ c κs. search needs) returns)

@@ -9,6 +9,4 @@ returns c = c .dc-16x16 .ensures 0
 pub luma16x16-dc-spec : {M : Type 1} → statement M
 luma16x16-dc-spec =
     tie.close
-    (tie.spec
-    (λ c κs. search needs)
-    returns)
+    (tie.spec (λ c κs. search needs) returns)

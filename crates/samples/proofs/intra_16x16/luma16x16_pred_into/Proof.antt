@@ -42,12 +42,5 @@ returns-3 c =
 pub luma16x16-pred-into-spec : {M : Type 1} → statement M
 luma16x16-pred-into-spec =
     tie.close
-    (tie.spec
-    (λ c κs. search needs)
-    returns
-    (λ c κs. search needs)
-    (λ c κs. search needs)
-    returns-2
-    predict-16x16-requires
-    (λ c. search needs)
+    (tie.spec (λ c κs. search needs) returns (λ c κs. search needs) (λ c κs. search needs) returns-2 predict-16x16-requires (λ c. search needs)
     returns-3)

@@ -12,7 +12,4 @@ returns c = c .before .dc-chroma .ensures 0 ∙ onto-all 64 _ (replicate 64 0) r
 pub chroma8x8-dc-spec : {M : Type 1} → statement M
 chroma8x8-dc-spec =
     tie.close
-    (tie.spec
-    (λ c. search needs)
-    (λ c κs. search needs)
-    returns)
+    (tie.spec (λ c. search needs) (λ c κs. search needs) returns)

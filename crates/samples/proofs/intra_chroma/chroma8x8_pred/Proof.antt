@@ -19,7 +19,4 @@ returns c =
 pub chroma8x8-pred-spec : {M : Type 1} → statement M
 chroma8x8-pred-spec =
     tie.close
-    (tie.spec
-    (λ c. search needs)
-    (λ c κs. search needs)
-    returns)
+    (tie.spec (λ c. search needs) (λ c κs. search needs) returns)

@@ -20,8 +20,4 @@ returns c corner =
 pub dc-chroma-spec : {M : Type 1} → statement M
 dc-chroma-spec =
     tie.close
-    (tie.spec
-    (λ c κs. search needs)
-    (λ c κs. search needs)
-    (λ c. search needs)
-    returns)
+    (tie.spec (λ c κs. search needs) (λ c κs. search needs) (λ c. search needs) returns)

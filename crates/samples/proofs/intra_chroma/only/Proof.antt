@@ -13,6 +13,4 @@ returns-2 c = rw (c .if1 .left) (sym (and-true (c .before .args .a)))
 pub only-spec : {M : Type 1} → statement M
 only-spec =
     tie.close
-    (tie.spec
-    returns
-    returns-2)
+    (tie.spec returns returns-2)

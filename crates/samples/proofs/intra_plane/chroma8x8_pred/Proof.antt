@@ -46,12 +46,4 @@ returns-5 c =
 pub chroma8x8-pred-spec : {M : Type 1} → statement M
 chroma8x8-pred-spec =
     tie.close
-    (tie.spec
-    returns
-    (λ c κs. search needs)
-    returns-2
-    returns-3
-    returns-4
-    chroma-at-requires
-    (λ c. search needs)
-    returns-5)
+    (tie.spec returns (λ c κs. search needs) returns-2 returns-3 returns-4 chroma-at-requires (λ c. search needs) returns-5)

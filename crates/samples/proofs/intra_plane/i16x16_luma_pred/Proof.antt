@@ -41,11 +41,4 @@ returns-4 c =
 pub i16x16-luma-pred-spec : {M : Type 1} → statement M
 i16x16-luma-pred-spec =
     tie.close
-    (tie.spec
-    returns
-    (λ c κs. search needs)
-    returns-2
-    returns-3
-    luma-at-requires
-    (λ c. search needs)
-    returns-4)
+    (tie.spec returns (λ c κs. search needs) returns-2 returns-3 luma-at-requires (λ c. search needs) returns-4)

@@ -48,11 +48,4 @@ returns-5 c =
 pub room-round-spec : {M : Type 1} → statement M
 room-round-spec =
     tie.close
-    (tie.spec
-    returns
-    returns-2
-    returns-3
-    returns-4
-    (λ c. search needs)
-    mul-result
-    returns-5)
+    (tie.spec returns returns-2 returns-3 returns-4 (λ c. search needs) mul-result returns-5)

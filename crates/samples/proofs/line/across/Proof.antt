@@ -69,19 +69,5 @@ returns c =
 pub across-spec : {M : Type 1} → statement M
 across-spec =
     tie.close
-    (tie.spec
-    Inv-loop
-    μ-loop
-    loop-holds
-    mul-at
-    (λ c. search needs)
-    add-fill
-    sub-fill
-    part-fill-start
-    part-fill-end
-    (λ c κs. search needs)
-    (λ c. search needs)
-    (λ c. search needs)
-    loop-again
-    (λ c. search needs)
-    returns)
+    (tie.spec Inv-loop μ-loop loop-holds mul-at (λ c. search needs) add-fill sub-fill part-fill-start part-fill-end (λ c κs. search needs)
+    (λ c. search needs) (λ c. search needs) loop-again (λ c. search needs) returns)

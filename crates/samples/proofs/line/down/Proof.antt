@@ -78,19 +78,5 @@ returns c =
 pub down-spec : {M : Type 1} → statement M
 down-spec =
     tie.close
-    (tie.spec
-    Inv-loop
-    μ-loop
-    side-of-requires
-    loop-holds
-    (λ c. search needs)
-    mul-copy
-    sub-copy
-    part-copy-start
-    part-copy-end
-    copy-requires
-    (λ c. search needs)
-    (λ c. search needs)
-    loop-again
-    (λ c. search needs)
-    returns)
+    (tie.spec Inv-loop μ-loop side-of-requires loop-holds (λ c. search needs) mul-copy sub-copy part-copy-start part-copy-end copy-requires
+    (λ c. search needs) (λ c. search needs) loop-again (λ c. search needs) returns)

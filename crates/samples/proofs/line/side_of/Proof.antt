@@ -40,15 +40,5 @@ returns c =
 pub side-of-spec : {M : Type 1} → statement M
 side-of-spec =
     tie.close
-    (tie.spec
-    Inv-loop
-    μ-loop
-    loop-holds
-    mul-f
-    add-f
-    shared-slice-read-f
-    (λ c. search needs)
-    (λ c. search needs)
-    (λ c. search needs)
-    loop-again
+    (tie.spec Inv-loop μ-loop loop-holds mul-f add-f shared-slice-read-f (λ c. search needs) (λ c. search needs) (λ c. search needs) loop-again
     returns)

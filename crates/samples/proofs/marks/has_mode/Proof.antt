@@ -11,6 +11,4 @@ returns c = mask (c .args .set) (c .args .mode) (omega arith)
 pub has-mode-spec : {M : Type 1} → statement M
 has-mode-spec =
     tie.close
-    (tie.spec
-    (λ c. search needs)
-    returns)
+    (tie.spec (λ c. search needs) returns)

@@ -23,9 +23,4 @@ returns-4 c = rw (eq-eqb _ _ (c .before .before .if1 .left), eq-eqb _ _ (c .befo
 pub lists-answer-spec : {M : Type 1} → statement M
 lists-answer-spec =
     tie.close
-    (tie.spec
-    returns
-    returns-2
-    mul-if3
-    returns-3
-    returns-4)
+    (tie.spec returns returns-2 mul-if3 returns-3 returns-4)

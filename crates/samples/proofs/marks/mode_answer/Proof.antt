@@ -15,7 +15,4 @@ returns-3 c = rw (le-leb (c .before .before .args .mode) (c .before .before .arg
 pub mode-answer-spec : {M : Type 1} → statement M
 mode-answer-spec =
     tie.close
-    (tie.spec
-    returns
-    returns-2
-    returns-3)
+    (tie.spec returns returns-2 returns-3)

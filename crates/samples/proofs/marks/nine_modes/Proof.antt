@@ -10,9 +10,4 @@ returns c = let a = c .before .before .before .before .args in cc (set-NxN (a .a
 pub nine-modes-spec : {M : Type 1} → statement M
 nine-modes-spec =
     tie.close
-    (tie.spec
-    (λ c κs. search needs)
-    (λ c κs. search needs)
-    (λ c κs. search needs)
-    (λ c κs. search needs)
-    returns)
+    (tie.spec (λ c κs. search needs) (λ c κs. search needs) (λ c κs. search needs) (λ c κs. search needs) returns)

@@ -15,8 +15,4 @@ returns-2 c = c .has-mode .ensures ∙ rw (c .before .permitted-16x16 .ensures) 
 pub permits-16x16-spec : {M : Type 1} → statement M
 permits-16x16-spec =
     tie.close
-    (tie.spec
-    returns
-    (λ c κs. search needs)
-    (λ c κs. search needs)
-    returns-2)
+    (tie.spec returns (λ c κs. search needs) (λ c κs. search needs) returns-2)

@@ -15,8 +15,4 @@ returns-2 c = c .has-mode .ensures ∙ rw (c .before .permitted-chroma .ensures)
 pub permits-chroma-spec : {M : Type 1} → statement M
 permits-chroma-spec =
     tie.close
-    (tie.spec
-    returns
-    (λ c κs. search needs)
-    (λ c κs. search needs)
-    returns-2)
+    (tie.spec returns (λ c κs. search needs) (λ c κs. search needs) returns-2)

@@ -15,8 +15,4 @@ returns-2 c = c .has-mode .ensures ∙ rw (c .before .nine-modes .ensures) (bit-
 pub permits-nxn-spec : {M : Type 1} → statement M
 permits-nxn-spec =
     tie.close
-    (tie.spec
-    returns
-    (λ c κs. search needs)
-    (λ c κs. search needs)
-    returns-2)
+    (tie.spec returns (λ c κs. search needs) (λ c κs. search needs) returns-2)

@@ -10,9 +10,4 @@ returns c = let a = c .before .before .before .before .args in cc (set-16x16 (a 
 pub permitted-16x16-spec : {M : Type 1} → statement M
 permitted-16x16-spec =
     tie.close
-    (tie.spec
-    (λ c κs. search needs)
-    (λ c κs. search needs)
-    (λ c κs. search needs)
-    (λ c κs. search needs)
-    returns)
+    (tie.spec (λ c κs. search needs) (λ c κs. search needs) (λ c κs. search needs) (λ c κs. search needs) returns)

@@ -10,9 +10,4 @@ returns c = let a = c .before .before .before .before .args in cc (set-chroma (a
 pub permitted-chroma-spec : {M : Type 1} → statement M
 permitted-chroma-spec =
     tie.close
-    (tie.spec
-    (λ c κs. search needs)
-    (λ c κs. search needs)
-    (λ c κs. search needs)
-    (λ c κs. search needs)
-    returns)
+    (tie.spec (λ c κs. search needs) (λ c κs. search needs) (λ c κs. search needs) (λ c κs. search needs) returns)

@@ -15,8 +15,4 @@ returns c =
 pub byte-over-spec : {M : Type 1} → statement M
 byte-over-spec =
     tie.close
-    (tie.spec
-    returns
-    (λ c. search needs)
-    (λ c. search needs)
-    (λ c. search needs))
+    (tie.spec returns (λ c. search needs) (λ c. search needs) (λ c. search needs))

@@ -19,8 +19,4 @@ returns c =
 pub gradient-of-spec : {M : Type 1} → statement M
 gradient-of-spec =
     tie.close
-    (tie.spec
-    (λ c. search needs)
-    mul-result
-    add-result
-    returns)
+    (tie.spec (λ c. search needs) mul-result add-result returns)

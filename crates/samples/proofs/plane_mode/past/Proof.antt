@@ -24,8 +24,4 @@ returns c =
 pub past-spec : {M : Type 1} → statement M
 past-spec =
     tie.close
-    (tie.spec
-    (λ c. search needs)
-    (λ c. search needs)
-    sub-result
-    returns)
+    (tie.spec (λ c. search needs) (λ c. search needs) sub-result returns)

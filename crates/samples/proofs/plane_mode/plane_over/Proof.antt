@@ -29,10 +29,4 @@ returns c =
 pub plane-over-spec : {M : Type 1} → statement M
 plane-over-spec =
     tie.close
-    (tie.spec
-    (λ c κs. search needs)
-    (λ c. search needs)
-    (λ c. search needs)
-    ramp-over-requires
-    (λ c. search needs)
-    returns)
+    (tie.spec (λ c κs. search needs) (λ c. search needs) (λ c. search needs) ramp-over-requires (λ c. search needs) returns)

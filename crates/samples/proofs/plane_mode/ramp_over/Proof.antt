@@ -103,22 +103,5 @@ returns c =
 pub ramp-over-spec : {M : Type 1} → statement M
 ramp-over-spec =
     tie.close
-    (tie.spec
-    Inv-loop2
-    μ-loop2
-    Inv-loop
-    μ-loop
-    loop-holds
-    loop2-holds
-    sample-requires
-    mul-out
-    add-out
-    slice-write-out
-    (λ c. search needs)
-    (λ c. search needs)
-    loop2-again
-    (λ c. search needs)
-    (λ c. search needs)
-    loop-again
-    same-length
-    returns)
+    (tie.spec Inv-loop2 μ-loop2 Inv-loop μ-loop loop-holds loop2-holds sample-requires mul-out add-out slice-write-out (λ c. search needs)
+    (λ c. search needs) loop2-again (λ c. search needs) (λ c. search needs) loop-again same-length returns)

@@ -32,13 +32,5 @@ returns c =
 pub sample-spec : {M : Type 1} → statement M
 sample-spec =
     tie.close
-    (tie.spec
-    (λ c κs. search needs)
-    (λ c κs. search needs)
-    mul-clip-u8
-    add-clip-u8
-    mul-clip-u8-2
-    add-clip-u8-2
-    add-clip-u8-3
-    (λ c κs. search needs)
+    (tie.spec (λ c κs. search needs) (λ c κs. search needs) mul-clip-u8 add-clip-u8 mul-clip-u8-2 add-clip-u8-2 add-clip-u8-3 (λ c κs. search needs)
     returns)

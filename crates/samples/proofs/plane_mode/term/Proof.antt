@@ -16,9 +16,4 @@ returns c = (search byte-ints depth 20, search byte-ints depth 20)
 pub term-spec : {M : Type 1} → statement M
 term-spec =
     tie.close
-    (tie.spec
-    (λ c. search needs)
-    (λ c. search needs)
-    sub-result
-    mul-result
-    returns)
+    (tie.spec (λ c. search needs) (λ c. search needs) sub-result mul-result returns)
