@@ -46,7 +46,7 @@ pub fn reconstruct_4x4_lists(deq: &[i32], pred: &[i32], block: &mut [u8]) -> u32
     ensures { λ r. ⌜ r ≡ sumsAnswer 16 (now (deq .entry)) (now (pred .entry)) (length (now (block .entry))) ⌝ }
     ensures { λ r. ⌜ now (block .exit) ≡ written r (now (block .entry)) (sums 16 (inverse4x4 (now (deq .entry))) (now (pred .entry))) ⌝ }
 {
-    let answer = lists_answer(16, deq, pred, block.len());
+    let answer = sums_answer(16, deq, pred, block.len());
     if answer != 0 {
         return answer;
     }
@@ -81,7 +81,7 @@ pub fn add_residual_lists(n: usize, res: &[i32], pred: &[i32], block: &mut [u8])
     ensures { λ r. ⌜ r ≡ sumsAnswer n (now (res .entry)) (now (pred .entry)) (length (now (block .entry))) ⌝ }
     ensures { λ r. ⌜ now (block .exit) ≡ written r (now (block .entry)) (sums n (now (res .entry)) (now (pred .entry))) ⌝ }
 {
-    let answer = lists_answer(n, res, pred, block.len());
+    let answer = sums_answer(n, res, pred, block.len());
     if answer != 0 {
         return answer;
     }
@@ -90,7 +90,7 @@ pub fn add_residual_lists(n: usize, res: &[i32], pred: &[i32], block: &mut [u8])
 }
 
 // The answer of a call on n numbers, n of a prediction and `bytes` places.
-fn lists_answer(n: usize, numbers: &[i32], pred: &[i32], bytes: usize) -> u32
+fn sums_answer(n: usize, numbers: &[i32], pred: &[i32], bytes: usize) -> u32
     ensures { λ r. ⌜ r ≡ sumsAnswer n (now (numbers .entry)) (now (pred .entry)) bytes ⌝ }
 {
     if numbers.len() != n {

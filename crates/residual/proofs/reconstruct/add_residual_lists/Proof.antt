@@ -9,13 +9,13 @@ use Rattle.residual.proofs.reconstruct.add_residual_lists.Statement.{st
 use Rattle.residual.proofs.reconstruct.add_residual_lists.Tie as tie
 
 returns : tie.Need-returns
-returns c = (c .before .lists-answer .ensures, sym (refused _ _ _ (c .if1 .taken)))
+returns c = (c .before .sums-answer .ensures, sym (refused _ _ _ (c .if1 .taken)))
 
 add-clipped-requires : tie.Need-add-clipped-requires
 add-clipped-requires c κs =
     let d = c .before in
     let a = d .before .before .before .args in
-    let s = summable (a .n) (a .res .now) (a .pred .now) (length (a .block .now)) (sym (d .before .lists-answer .ensures) ∙ d .if1 .left) in
+    let s = summable (a .n) (a .res .now) (a .pred .now) (length (a .block .now)) (sym (d .before .sums-answer .ensures) ∙ d .if1 .left) in
     let w = both-within (a .res .now) (a .pred .now) (s .3) in
     (s .0, s .1, s .2, w .0, w .1)
 

@@ -16,14 +16,14 @@ use Rattle.residual.proofs.reconstruct.reconstruct_4x4_lists.Statement.
 use Rattle.residual.proofs.reconstruct.reconstruct_4x4_lists.Tie as tie
 
 returns : tie.Need-returns
-returns c = (c .before .lists-answer .ensures, sym (refused _ _ _ (c .if1 .taken)))
+returns c = (c .before .sums-answer .ensures, sym (refused _ _ _ (c .if1 .taken)))
 
 -- what the answer 0 says, and what the residuals are
 facts : (c : tie.Else1) → let a = c .before .before .before .args in
     (length (a .deq .now) ≡ 16) × (length (a .pred .now) ≡ 16) × (length (a .block .now) ≡ 16) × (allInRange (a .deq .now) && allInRange (a .pred .now) ≡ true)
 facts c =
     let a = c .before .before .before .args in
-    summable 16 (a .deq .now) (a .pred .now) (length (a .block .now)) (sym (c .before .lists-answer .ensures) ∙ c .if1 .left)
+    summable 16 (a .deq .now) (a .pred .now) (length (a .block .now)) (sym (c .before .sums-answer .ensures) ∙ c .if1 .left)
 
 residuals : (c : tie.After-widen) → let a = c .before .before .before .before .before .before .before .args in c .widen .last .1 .0 ≡ inverse4x4 (a .deq .now)
 residuals c = c .widen .ensures ∙ c .before .before .before .inverse-core .ensures
@@ -43,7 +43,7 @@ returns-2 c =
     let w = c .before .before .before .before .before .before in
     let d = w .before .before .before .before in
     let a = d .before .before .before .args in
-    (sym (d .if1 .left) ∙ d .before .lists-answer .ensures, c .before .before .add-clipped .ensures ∙ ap (λ res. sums 16 res (a .pred .now)) (residuals w))
+    (sym (d .if1 .left) ∙ d .before .sums-answer .ensures, c .before .before .add-clipped .ensures ∙ ap (λ res. sums 16 res (a .pred .now)) (residuals w))
 
 pub reconstruct-4x4-lists-spec : {M : Type 1} → statement M
 reconstruct-4x4-lists-spec =

@@ -1,9 +1,9 @@
--- `residual::reconstruct::lists_answer` meets its contract: it tests the rules in their order. Assumes nothing.
+-- `residual::reconstruct::sums_answer` meets its contract: it tests the rules in their order. Assumes nothing.
 use mathlib.Core.Path.{sym, _∙_}
 use borrow.Author.Tests.{not-true, not-false, eq-eqb, ne-eqb}
 use borrow.Author.Needs.{needs}
-use Rattle.residual.proofs.reconstruct.lists_answer.Statement.{statement}
-use Rattle.residual.proofs.reconstruct.lists_answer.Tie as tie
+use Rattle.residual.proofs.reconstruct.sums_answer.Statement.{statement}
+use Rattle.residual.proofs.reconstruct.sums_answer.Tie as tie
 
 returns : tie.Need-returns
 returns c = rw (ne-eqb _ _ (c .if1 .taken))
@@ -24,7 +24,7 @@ returns-5 c =
     let d = c .before .before in
     rw (eq-eqb _ _ (d .before .before .if1 .left), eq-eqb _ _ (d .before .if2 .left), eq-eqb _ _ (d .if3 .left), sym (c .before .both-in-range .ensures) ∙ not-false _ (c .if4 .left))
 
-pub lists-answer-spec : {M : Type 1} → statement M
-lists-answer-spec =
+pub sums-answer-spec : {M : Type 1} → statement M
+sums-answer-spec =
     tie.close
     (tie.spec returns returns-2 returns-3 (λ c κs. search needs) returns-4 returns-5)
