@@ -63,17 +63,19 @@ module _ {list : ℕ} (sixteen numbers room : Bool) (e : list ≡ answer (2 unle
   in-room r = rw r e
 
 -- ---- the answer of a call on lists
-pub summable : (n : ℕ) (a b : List ℤ) (m : ℕ) → sumsAnswer n a b m ≡ 0 → (length a ≡ n) × (length b ≡ n) × (m ≡ n) × (allInRange a && allInRange b ≡ true)
+pub summable : (n : ℕ) (a b : List ℤ) (m : ℕ) → sumsAnswer n a b m ≡ 0
+    → (n ≤ 64) × (length a ≡ n) × (length b ≡ n) × (m ≡ n) × (allInRange a && allInRange b ≡ true)
 summable n a b m e =
     let last = 8 unless (allInRange a && allInRange b) ∷ [] in
-    let p = passes 1 (eqb (length a) n) (2 unless eqb (length b) n ∷ 2 unless eqb m n ∷ last) e in
+    let o = passes 1 (leb n 64) (2 unless eqb (length a) n ∷ 2 unless eqb (length b) n ∷ 2 unless eqb m n ∷ last) e in
+    let p = passes 1 (eqb (length a) n) (2 unless eqb (length b) n ∷ 2 unless eqb m n ∷ last) (o .1) in
     let q = passes 1 (eqb (length b) n) (2 unless eqb m n ∷ last) (p .1) in
     let r = passes 1 (eqb m n) last (q .1) in
-    (eqb-true (length a) n (p .0), eqb-true (length b) n (q .0), eqb-true m n (r .0), passes 7 (allInRange a && allInRange b) [] (r .1) .0)
+    (leb-true n 64 (o .0), eqb-true (length a) n (p .0), eqb-true (length b) n (q .0), eqb-true m n (r .0), passes 7 (allInRange a && allInRange b) [] (r .1) .0)
 
 -- the same of arrays, whose lengths are right
-pub sums-array : (n : ℕ) (a b : List ℤ) → length a ≡ n → length b ≡ n → sumsAnswer n a b n ≡ answer (8 unless (allInRange a && allInRange b) ∷ [])
-sums-array n a b e f = rw (eq-eqb (length a) n e, eq-eqb (length b) n f, eq-eqb n n refl)
+pub sums-array : (n : ℕ) (a b : List ℤ) → n ≤ 64 → length a ≡ n → length b ≡ n → sumsAnswer n a b n ≡ answer (8 unless (allInRange a && allInRange b) ∷ [])
+sums-array n a b h e f = rw (le-leb n 64 h, eq-eqb (length a) n e, eq-eqb (length b) n f, eq-eqb n n refl)
 
 pub inverse-array : (d : List ℤ) → length d ≡ 16 → inverseAnswer d 16 ≡ answer (8 unless allInRange d ∷ [])
 inverse-array d e = rw (eq-eqb (length d) 16 e)

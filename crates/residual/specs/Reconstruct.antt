@@ -45,7 +45,9 @@ abbrev pub intoAnswer : Bool → Bool → ℕ → ℕ → ℕ → ℕ → ℕ �
 intoAnswer sixteen numbers predLen predOff predStride recLen recOff recStride =
     answer (2 unless sixteen ∷ 2 unless intoRoom 4 predLen predOff predStride recLen recOff recStride ∷ 8 unless numbers ∷ [])
 
--- the answer of a call on lists, n numbers, n of a prediction and n bytes: 2 for another length, 8 for a number out of range
+-- the answer of a call on lists, n numbers, n of a prediction and n bytes, n at most 64: 2 for another length, 8 for a number out of range
 abbrev pub sumsAnswer : ℕ → List ℤ → List ℤ → ℕ → ℕ
 sumsAnswer n numbers pred bytes =
-    answer (2 unless eqb (length numbers) n ∷ 2 unless eqb (length pred) n ∷ 2 unless eqb bytes n ∷ 8 unless (allInRange numbers && allInRange pred) ∷ [])
+    answer
+    (2 unless leb n 64 ∷ 2 unless eqb (length numbers) n ∷ 2 unless eqb (length pred) n ∷ 2 unless eqb bytes n
+    ∷ 8 unless (allInRange numbers && allInRange pred) ∷ [])

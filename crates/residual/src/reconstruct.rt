@@ -2,12 +2,12 @@
 ghost use mathlib.Core.Path.{_≡_};
 ghost use mathlib.Core.Bool.{Bool, true, _&&_};
 ghost use mathlib.Core.List.{List, [], _∷_};
-ghost use Prim.Native.Nat.{ℕ, _+_, _*_, _≤_};
+ghost use Prim.Native.Nat.{ℕ, _+_, _*_, _≤_, _<_};
 ghost use lib.Dec.{eqb, leb};
 ghost use lib.IntN.{ℤ, pos, _+ℤ_};
-ghost use lib.ListN.{length, replicate};
+ghost use lib.ListN.{length, getD, replicate};
 ghost use Rattle.laws.specs.Answer.{_unless_, answer, written};
-ghost use Rattle.laws.specs.Range.{AllWithin};
+ghost use Rattle.laws.specs.Range.{AllWithin, at};
 ghost use Rattle.residual.specs.Clip.{Clip1};
 ghost use Rattle.residual.specs.Inverse.{inverse4x4};
 ghost use Rattle.residual.specs.Numbers.{inRange, allInRange};
@@ -76,7 +76,7 @@ pub fn add_residual_8x8(res: &[i32; 64], pred: &[i32; 64]) -> Block8x8
     Block8x8 { answer, block }
 }
 
-// The same of n numbers over lists, the samples put into lent memory.
+// The same of n numbers, 64 at most, over lists, the samples put into lent memory.
 pub fn add_residual_lists(n: usize, res: &[i32], pred: &[i32], block: &mut [u8]) -> u32
     ensures { λ r. ⌜ r ≡ sumsAnswer n (now (res .entry)) (now (pred .entry)) (length (now (block .entry))) ⌝ }
     ensures { λ r. ⌜ now (block .exit) ≡ written r (now (block .entry)) (sums n (now (res .entry)) (now (pred .entry))) ⌝ }
@@ -93,6 +93,9 @@ pub fn add_residual_lists(n: usize, res: &[i32], pred: &[i32], block: &mut [u8])
 fn sums_answer(n: usize, numbers: &[i32], pred: &[i32], bytes: usize) -> u32
     ensures { λ r. ⌜ r ≡ sumsAnswer n (now (numbers .entry)) (now (pred .entry)) bytes ⌝ }
 {
+    if n > 64 {
+        return 2;
+    }
     if numbers.len() != n {
         return 2;
     }
@@ -108,14 +111,28 @@ fn sums_answer(n: usize, numbers: &[i32], pred: &[i32], bytes: usize) -> u32
     0
 }
 
-// The same of numbers that are in range.
+// The same of numbers that are in range: all sums are made before one is put, so that the compiled code takes them side by side.
 fn add_clipped(n: usize, res: &[i32], pred: &[i32], block: &mut [u8])
-    requires { ⌜ (length (now res) ≡ n) × (length (now pred) ≡ n) × (length (now block) ≡ n) × AllWithin 32768 (now res) × AllWithin 32768 (now pred) ⌝ }
+    requires { ⌜ (n ≤ 64) × (length (now res) ≡ n) × (length (now pred) ≡ n) × (length (now block) ≡ n) ⌝ }
+    requires { ⌜ AllWithin 32768 (now res) × AllWithin 32768 (now pred) ⌝ }
     ensures { λ _. ⌜ now (block .exit) ≡ sums n (now (res .entry)) (now (pred .entry)) ⌝ }
 {
+    let made = clipped_sums(n, res, pred);
     for k in 0..n {
-        block[k] = clip_u8(pred[k] + res[k]);
+        block[k] = made[k];
     }
+}
+
+fn clipped_sums(n: usize, res: &[i32], pred: &[i32]) -> [u8; 64]
+    requires { ⌜ (n ≤ 64) × (length (now res) ≡ n) × (length (now pred) ≡ n) ⌝ }
+    requires { ⌜ AllWithin 32768 (now res) × AllWithin 32768 (now pred) ⌝ }
+    ensures { λ r. ⌜ ((k : ℕ) → k < n → getD r k 0 ≡ Clip1 (at (now (pred .entry)) k +ℤ at (now (res .entry)) k)) ⌝ }
+{
+    let mut made = [0u8; 64];
+    for k in 0..n {
+        made[k] = clip_u8(pred[k] + res[k]);
+    }
+    made
 }
 
 // Whether every number of both lies in range.

@@ -16,8 +16,8 @@ add-clipped-requires c κs =
     let d = c .before in
     let a = d .before .before .before .args in
     let s = summable (a .n) (a .res .now) (a .pred .now) (length (a .block .now)) (sym (d .before .sums-answer .ensures) ∙ d .if1 .left) in
-    let w = both-within (a .res .now) (a .pred .now) (s .3) in
-    (s .0, s .1, s .2, w .0, w .1)
+    let w = both-within (a .res .now) (a .pred .now) (s .4) in
+    ((s .0, s .1, s .2, s .3), w)
 
 pub add-residual-lists-spec : {M : Type 1} → statement M
 add-residual-lists-spec =

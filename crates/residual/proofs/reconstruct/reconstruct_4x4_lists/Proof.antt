@@ -1,6 +1,7 @@
 -- `residual::reconstruct::reconstruct_4x4_lists` meets its contract: the answer 0 says all that the inverse and `add_clipped` ask. Assumes nothing.
 use mathlib.Core.Path.{_≡_, sym, ap, _∙_, subst}
 use mathlib.Core.Bool.{true, _&&_}
+use Prim.Native.Nat.{_≤_}
 use lib.ListN.{length}
 use Rattle.laws.specs.Range.{AllWithin}
 use Rattle.laws.proofs.Answers.{refused}
@@ -20,7 +21,7 @@ returns c = (c .before .sums-answer .ensures, sym (refused _ _ _ (c .if1 .taken)
 
 -- what the answer 0 says, and what the residuals are
 facts : (c : tie.Else1) → let a = c .before .before .before .args in
-    (length (a .deq .now) ≡ 16) × (length (a .pred .now) ≡ 16) × (length (a .block .now) ≡ 16) × (allInRange (a .deq .now) && allInRange (a .pred .now) ≡ true)
+    (16 ≤ 64) × (length (a .deq .now) ≡ 16) × (length (a .pred .now) ≡ 16) × (length (a .block .now) ≡ 16) × (allInRange (a .deq .now) && allInRange (a .pred .now) ≡ true)
 facts c =
     let a = c .before .before .before .args in
     summable 16 (a .deq .now) (a .pred .now) (length (a .block .now)) (sym (c .before .sums-answer .ensures) ∙ c .if1 .left)
@@ -29,14 +30,14 @@ residuals : (c : tie.After-widen) → let a = c .before .before .before .before 
 residuals c = c .widen .ensures ∙ c .before .before .before .inverse-core .ensures
 
 inverse-core-requires : tie.Need-inverse-core-requires
-inverse-core-requires c κs = let s = facts c in (s .0, and-left _ _ (s .3))
+inverse-core-requires c κs = let s = facts c in (s .1, and-left _ _ (s .4))
 
 add-clipped-requires : tie.Need-add-clipped-requires
 add-clipped-requires c κs =
     let w = c .before .before .before in
     let d = w .before .before .before .before in
     let s = facts d in
-    (ap length (residuals w) ∙ inverse-long _, s .1, s .2, subst (AllWithin 32768) (sym (residuals w)) (inverse-within _ (and-left _ _ (s .3))), both-within _ _ (s .3) .1)
+    ((s .0, ap length (residuals w) ∙ inverse-long _, s .2, s .3), (subst (AllWithin 32768) (sym (residuals w)) (inverse-within _ (and-left _ _ (s .4))), both-within _ _ (s .4) .1))
 
 returns-2 : tie.Need-returns-2
 returns-2 c =
