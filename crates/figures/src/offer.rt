@@ -1,37 +1,27 @@
 // A macroblock offered to a picture: the record is taken apart here, for the call takes its parts.
 use macroblock::Record;
-use maps::progress::Outcome;
-use maps::progress::Progress;
+use macroblock::Strides;
+use picture::Spot;
 
 pub(crate) fn offer(
-    w: u32,
-    h: u32,
-    x: u32,
-    y: u32,
+    spot: Spot,
     luma: &mut [u8],
-    luma_stride: usize,
     cb: &mut [u8],
-    cb_stride: usize,
     cr: &mut [u8],
-    cr_stride: usize,
+    strides: Strides,
     done: &mut [u8],
     slices: &[u16],
-    progress: Progress,
+    progress: &mut [u32; 2],
     record: Record,
-) -> Outcome {
+) -> u32 {
     let modes = record.modes;
     let numbers = record.numbers;
-    picture::rebuild_core(
-        w,
-        h,
-        x,
-        y,
+    picture::rebuild(
+        spot,
         luma,
-        luma_stride,
         cb,
-        cb_stride,
         cr,
-        cr_stride,
+        strides,
         done,
         slices,
         progress,

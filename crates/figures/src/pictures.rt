@@ -3,8 +3,10 @@
 use super::offer::offer;
 use super::tell::tell;
 use macroblock::Record;
+use macroblock::Strides;
 use maps::progress::Progress;
 use maps::progress::start_core;
+use picture::Spot;
 
 // A record of a kind with DC everywhere: permitted wherever it stands.
 fn flat(kind: u8) -> Record {
@@ -93,23 +95,29 @@ fn in_120(w: u32, luma_stride: usize, chroma_stride: usize) -> u32 {
     let mut cr = [0u8; 8192];
     let mut done = [0u8; 120];
     let slices = [0u16; 120];
-    let p = Progress { count: 0, last: 0 };
-    offer(
+    let mut progress = [0u32; 2];
+    let spot = Spot {
         w,
-        1,
-        0,
-        0,
+        h: 1,
+        x: 0,
+        y: 0,
+    };
+    let strides = Strides {
+        luma: luma_stride,
+        cb: chroma_stride,
+        cr: chroma_stride,
+    };
+    offer(
+        spot,
         &mut luma,
-        luma_stride,
         &mut cb,
-        chroma_stride,
         &mut cr,
-        chroma_stride,
+        strides,
         &mut done,
         &slices,
-        p,
+        &mut progress,
         flat(2),
-    ).answer
+    )
 }
 
 fn in_3(x: u32, luma_stride: usize, chroma_stride: usize) -> u32 {
@@ -118,23 +126,29 @@ fn in_3(x: u32, luma_stride: usize, chroma_stride: usize) -> u32 {
     let mut cr = [0u8; 8192];
     let mut done = [0u8; 3];
     let slices = [0u16; 3];
-    let p = Progress { count: 0, last: 0 };
-    offer(
-        3,
-        1,
+    let mut progress = [0u32; 2];
+    let spot = Spot {
+        w: 3,
+        h: 1,
         x,
-        0,
+        y: 0,
+    };
+    let strides = Strides {
+        luma: luma_stride,
+        cb: chroma_stride,
+        cr: chroma_stride,
+    };
+    offer(
+        spot,
         &mut luma,
-        luma_stride,
         &mut cb,
-        chroma_stride,
         &mut cr,
-        chroma_stride,
+        strides,
         &mut done,
         &slices,
-        p,
+        &mut progress,
         flat(2),
-    ).answer
+    )
 }
 
 pub(crate) fn sizes() {
@@ -152,23 +166,24 @@ fn at(x: u32, y: u32, done: [u8; 6], slices: [u16; 6], count: u32, record: Recor
     let mut cb = [0u8; 440];
     let mut cr = [0u8; 440];
     let mut map = done;
-    let p = Progress { count, last: 0 };
+    let mut progress = [count, 0];
+    let spot = Spot { w: 3, h: 2, x, y };
+    let strides = Strides {
+        luma: 52,
+        cb: 27,
+        cr: 27,
+    };
     offer(
-        3,
-        2,
-        x,
-        y,
+        spot,
         &mut luma,
-        52,
         &mut cb,
-        27,
         &mut cr,
-        27,
+        strides,
         &mut map,
         &slices,
-        p,
+        &mut progress,
         record,
-    ).answer
+    )
 }
 
 // Slice 0 at address 0 and slice 1 elsewhere: address 4 has A, B and C but not D, and address 3 has C but not B.

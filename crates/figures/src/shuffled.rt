@@ -5,8 +5,10 @@ use super::offer::offer;
 use super::tell::tell;
 use libc::STDOUT_FILENO;
 use macroblock::Record;
+use macroblock::Strides;
 use maps::progress::Progress;
 use maps::progress::start_core;
+use picture::Spot;
 
 const SLICES: [u16; 6] = [0, 0, 1, 0, 0, 1];
 
@@ -154,29 +156,35 @@ fn rebuild_all(
         not_ready: 0,
         other: 0,
     };
-    let mut progress = start_core(3, 2, done, Progress { count: 9, last: 9 }).progress;
+    let started = start_core(3, 2, done, Progress { count: 9, last: 9 }).progress;
+    let mut progress = [started.count, started.last];
+    let strides = Strides {
+        luma: 52,
+        cb: 27,
+        cr: 27,
+    };
     for i in 0..36 {
         let a = order[i % 6];
+        let spot = Spot {
+            w: 3,
+            h: 2,
+            x: a % 3,
+            y: a / 3,
+        };
         let r = offer(
-            3,
-            2,
-            a % 3,
-            a / 3,
+            spot,
             luma,
-            52,
             cb,
-            27,
             cr,
-            27,
+            strides,
             done,
             &SLICES,
-            progress,
+            &mut progress,
             record_of(a as usize),
         );
-        progress = r.progress;
-        n = count(n, r.answer);
+        n = count(n, r);
     }
-    tell(b"  counted", progress.count);
+    tell(b"  counted", progress[0]);
     n
 }
 

@@ -1,3 +1,2 @@
 -- The definitions that the exports' contracts cite.
 pub mod Exports
-pub mod Pictures

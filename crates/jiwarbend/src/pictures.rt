@@ -3,12 +3,13 @@ ghost use mathlib.Core.Path.{_≡_};
 ghost use lib.ListN.{length, replicate};
 ghost use Rattle.laws.specs.Answer.{written};
 ghost use Rattle.macroblock.specs.Kinds.{recordOf};
-ghost use Rattle.maps.specs.Progress.{begun, startAnswer};
+ghost use Rattle.maps.specs.Progress.{begun, progressOf, startAnswer};
 ghost use Rattle.picture.specs.AnyOrder.{AnyOrder};
 ghost use Rattle.picture.specs.Rebuild.{call, lent, Rebuilds};
 ghost use Rattle.picture.specs.Run.{Picture};
-ghost use Rattle.jiwarbend.specs.Pictures.{progressOf};
+use macroblock::Strides;
 use maps::progress::Progress;
+use picture::Spot;
 
 #[no_mangle]
 pub extern "C" fn jiwarbend_start(w: u32, h: u32, done: &mut [u8], progress: &mut [u32; 2]) -> u32
@@ -52,39 +53,30 @@ pub extern "C" fn jiwarbend_rebuild(
     numbers: &[i32],
 ) -> u32
     ensures { λ r. ⌜ Rebuilds
-        (call w h x y «luma_stride» «cb_stride» «cr_stride» (now (slices .entry)) (recordOf kind (now (modes .entry)) «chroma_mode» (now (numbers .entry))))
+        (call (record { w = w; h = h; x = x; y = y }) (record { luma = «luma_stride»; cb = «cb_stride»; cr = «cr_stride» })
+        (now (slices .entry)) (recordOf kind (now (modes .entry)) «chroma_mode» (now (numbers .entry))))
         (lent (now (luma .entry)) (now (cb .entry)) (now (cr .entry)) (now (done .entry)) (progressOf (now (progress .entry))))
         r (lent (now (luma .exit)) (now (cb .exit)) (now (cr .exit)) (now (done .exit)) (progressOf (now (progress .exit)))) ⌝ }
     ensures { λ _. ⌜ ((g : Picture) → AnyOrder g) ⌝ }
 {
-    let before = Progress {
-        count: progress[0],
-        last: progress[1],
+    let spot = Spot { w, h, x, y };
+    let strides = Strides {
+        luma: luma_stride,
+        cb: cb_stride,
+        cr: cr_stride,
     };
-    let s = picture::rebuild_core(
-        w,
-        h,
-        x,
-        y,
+    picture::rebuild(
+        spot,
         luma,
-        luma_stride,
         cb,
-        cb_stride,
         cr,
-        cr_stride,
+        strides,
         done,
         slices,
-        before,
+        progress,
         kind,
         modes,
         chroma_mode,
         numbers,
-    );
-    if s.answer != 0 {
-        return s.answer;
-    }
-    let after = s.progress;
-    let both = [after.count, after.last];
-    *progress = both;
-    0
+    )
 }

@@ -5,6 +5,7 @@ use Prim.Native.Nat.{ℕ, zero, suc}
 use native.Mathlib.Omega.{arith}
 use Rattle.maps.specs.Neighbours.{Side}
 use Rattle.macroblock.specs.declared.Record.{Record}
+use Rattle.macroblock.specs.declared.Strides.{Strides}
 use Rattle.macroblock.specs.Cut.{four, eight, whole, squareSides}
 use Rattle.macroblock.specs.Kinds.{cutFor, lumaRule, chromaRule}
 use Rattle.macroblock.specs.Local.{Local, Promise}
@@ -24,12 +25,12 @@ module _ (rule : Rule) (n s x y : ℕ) (marks : Side → Bool) where
   chroma-local : StandsIn 8 (placeAt s y x) n (squareSides marks) → Local n 8 s x y marks (allParts (whole 8) rule s x y marks)
   chroma-local = square-local (whole 8) rule n s x y marks scan-1 (omega arith) (omega arith)
 
-pub promised : (x y lumaLen lumaStride cbLen cbStride crLen crStride : ℕ) (marks : Side → Bool) (r : Record)
-    → rooms x y lumaLen lumaStride cbLen cbStride crLen crStride marks ≡ true → Promise x y lumaLen lumaStride cbLen cbStride crLen crStride marks r
-promised x y n₁ s₁ n₂ s₂ n₃ s₃ marks r e =
-    let w = all-stand x y n₁ s₁ n₂ s₂ n₃ s₃ marks e in
+pub promised : (x y lumaLen cbLen crLen : ℕ) (s : Strides) (marks : Side → Bool) (r : Record)
+    → rooms x y lumaLen cbLen crLen s marks ≡ true → Promise x y lumaLen cbLen crLen s marks r
+promised x y n₁ n₂ n₃ s marks r e =
+    let w = all-stand x y n₁ n₂ n₃ s marks e in
     record {
-      luma = luma-local (lumaRule (r .kind) (r .modes) (r .numbers)) n₁ s₁ x y marks (r .kind) (w .luma);
-      cb = chroma-local (chromaRule (r .«chroma_mode») (r .numbers) 16) n₂ s₂ x y marks (w .cb);
-      cr = chroma-local (chromaRule (r .«chroma_mode») (r .numbers) 20) n₃ s₃ x y marks (w .cr);
+      luma = luma-local (lumaRule (r .kind) (r .modes) (r .numbers)) n₁ (s .luma) x y marks (r .kind) (w .luma);
+      cb = chroma-local (chromaRule (r .«chroma_mode») (r .numbers) 16) n₂ (s .cb) x y marks (w .cb);
+      cr = chroma-local (chromaRule (r .«chroma_mode») (r .numbers) 20) n₃ (s .cr) x y marks (w .cr);
     }

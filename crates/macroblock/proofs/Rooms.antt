@@ -8,6 +8,7 @@ use lib.Dec.{ltb, leb}
 use Rattle.laws.proofs.Tests.{and-left, and-right, and-both, implied}
 use Rattle.maps.specs.Neighbours.{Side}
 use Rattle.maps.specs.Neighbours.Side.{A, B, C, D}
+use Rattle.macroblock.specs.declared.Strides.{Strides}
 use Rattle.macroblock.specs.Cut.{squareSides}
 use Rattle.macroblock.specs.Square.{placeAt}
 use Rattle.macroblock.specs.Rules.{room, rooms}
@@ -45,18 +46,18 @@ room-stands q len s x y marks some e =
     }
 
 -- and the squares of the three planes
-module _ (x y lumaLen lumaStride cbLen cbStride crLen crStride : ℕ) (marks : Side → Bool) where
+module _ (x y lumaLen cbLen crLen : ℕ) (s : Strides) (marks : Side → Bool) where
   pub record AllStand : Type 0 where
-    pub luma : StandsIn 16 (placeAt lumaStride y x) lumaLen (squareSides marks)
-    pub cb : StandsIn 8 (placeAt cbStride y x) cbLen (squareSides marks)
-    pub cr : StandsIn 8 (placeAt crStride y x) crLen (squareSides marks)
+    pub luma : StandsIn 16 (placeAt (s .luma) y x) lumaLen (squareSides marks)
+    pub cb : StandsIn 8 (placeAt (s .cb) y x) cbLen (squareSides marks)
+    pub cr : StandsIn 8 (placeAt (s .cr) y x) crLen (squareSides marks)
 
-  pub all-stand : rooms x y lumaLen lumaStride cbLen cbStride crLen crStride marks ≡ true → AllStand
+  pub all-stand : rooms x y lumaLen cbLen crLen s marks ≡ true → AllStand
   all-stand e =
-      let t₁ = room 16 lumaLen lumaStride x y marks in let t₂ = room 8 cbLen cbStride x y marks in let t₃ = room 8 crLen crStride x y marks in
+      let t₁ = room 16 lumaLen (s .luma) x y marks in let t₂ = room 8 cbLen (s .cb) x y marks in let t₃ = room 8 crLen (s .cr) x y marks in
       let f = and-left (t₁ && t₂) t₃ e in
       record {
-        luma = room-stands 16 lumaLen lumaStride x y marks (omega arith) (and-left t₁ t₂ f);
-        cb = room-stands 8 cbLen cbStride x y marks (omega arith) (and-right t₁ t₂ f);
-        cr = room-stands 8 crLen crStride x y marks (omega arith) (and-right (t₁ && t₂) t₃ e);
+        luma = room-stands 16 lumaLen (s .luma) x y marks (omega arith) (and-left t₁ t₂ f);
+        cb = room-stands 8 cbLen (s .cb) x y marks (omega arith) (and-right t₁ t₂ f);
+        cr = room-stands 8 crLen (s .cr) x y marks (omega arith) (and-right (t₁ && t₂) t₃ e);
       }

@@ -7,6 +7,7 @@ use lib.Dec.{T}
 use lib.ListN.{getD, length}
 use Rattle.maps.specs.Neighbours.{Side, besideX, besideY}
 use Rattle.macroblock.specs.declared.Record.{Record}
+use Rattle.macroblock.specs.declared.Strides.{Strides}
 use Rattle.macroblock.specs.Square.{inBlock}
 use Rattle.macroblock.specs.Kinds.{lumaSquare, cbSquare, crSquare}
 
@@ -20,7 +21,7 @@ pub record Local (n q s x y : ℕ) (marks : Side → Bool) (step : List ℕ → 
       → (i : ℕ) → T (inBlock q s y x i) → getD (step p) i 0 ≡ getD (step p′) i 0
 
 -- the promise: in each plane
-pub record Promise (x y lumaLen lumaStride cbLen cbStride crLen crStride : ℕ) (marks : Side → Bool) (r : Record) : Type 0 where
-  pub luma : Local lumaLen 16 lumaStride x y marks (lumaSquare x y marks r lumaStride)
-  pub cb : Local cbLen 8 cbStride x y marks (cbSquare x y marks r cbStride)
-  pub cr : Local crLen 8 crStride x y marks (crSquare x y marks r crStride)
+pub record Promise (x y lumaLen cbLen crLen : ℕ) (s : Strides) (marks : Side → Bool) (r : Record) : Type 0 where
+  pub luma : Local lumaLen 16 (s .luma) x y marks (lumaSquare x y marks r (s .luma))
+  pub cb : Local cbLen 8 (s .cb) x y marks (cbSquare x y marks r (s .cb))
+  pub cr : Local crLen 8 (s .cr) x y marks (crSquare x y marks r (s .cr))

@@ -10,6 +10,7 @@ use Rattle.samples.specs.Marks.{permittedNxN, permitted16x16, permittedChroma}
 use Rattle.residual.specs.Numbers.{allInRange}
 use Rattle.maps.specs.Neighbours.{Side}
 use Rattle.macroblock.specs.declared.Record.{Record}
+use Rattle.macroblock.specs.declared.Strides.{Strides}
 use Rattle.macroblock.specs.declared.cut.Sides.{Sides}
 use Rattle.macroblock.specs.Cut.{sidesOf}
 use Rattle.maps.specs.Neighbours.Side.{A, B, C, D}
@@ -28,9 +29,8 @@ room q len s x y marks =
     && (not (marks D) || (ltb 0 x && ltb 0 y))
 
 -- the same of the three planes
-abbrev pub rooms : (x y lumaLen lumaStride cbLen cbStride crLen crStride : ℕ) → (Side → Bool) → Bool
-rooms x y lumaLen lumaStride cbLen cbStride crLen crStride marks =
-    room 16 lumaLen lumaStride x y marks && room 8 cbLen cbStride x y marks && room 8 crLen crStride x y marks
+abbrev pub rooms : (x y lumaLen cbLen crLen : ℕ) → Strides → (Side → Bool) → Bool
+rooms x y lumaLen cbLen crLen s marks = room 16 lumaLen (s .luma) x y marks && room 8 cbLen (s .cb) x y marks && room 8 crLen (s .cr) x y marks
 
 -- 2: a macroblock has 16 modes, used or not, and 384 numbers
 unfoldable pub listsGood : Record → Bool

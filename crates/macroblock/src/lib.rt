@@ -29,16 +29,21 @@ pub struct Record {
     pub numbers: [i32; 384],
 }
 
+// How far apart the rows of each plane stand.
+pub struct Strides {
+    pub luma: usize,
+    pub cb: usize,
+    pub cr: usize,
+}
+
 // Rebuilds macroblock (x, y) of three planes from a record's parts, where its neighbours have these marks.
 pub fn rebuild(
     x: u32,
     y: u32,
     luma: &mut [u8],
-    luma_stride: usize,
     cb: &mut [u8],
-    cb_stride: usize,
     cr: &mut [u8],
-    cr_stride: usize,
+    strides: Strides,
     marks: Marks,
     kind: u8,
     modes: &[u8],
@@ -46,18 +51,18 @@ pub fn rebuild(
     numbers: &[i32],
 ) -> u32
     ensures { λ r. ⌜ r ≡ rebuildAnswer
-        (rooms x y (length (now (luma .entry))) «luma_stride» (length (now (cb .entry))) «cb_stride» (length (now (cr .entry))) «cr_stride» (marksOf marks))
+        (rooms x y (length (now (luma .entry))) (length (now (cb .entry))) (length (now (cr .entry))) strides (marksOf marks))
         (marksOf marks) (recordOf kind (now (modes .entry)) «chroma_mode» (now (numbers .entry))) ⌝ }
     ensures { λ r. ⌜ now (luma .exit) ≡ written r (now (luma .entry))
-        (lumaSquare x y (marksOf marks) (recordOf kind (now (modes .entry)) «chroma_mode» (now (numbers .entry))) «luma_stride» (now (luma .entry))) ⌝ }
+        (lumaSquare x y (marksOf marks) (recordOf kind (now (modes .entry)) «chroma_mode» (now (numbers .entry))) (strides .luma) (now (luma .entry))) ⌝ }
     ensures { λ r. ⌜ now (cb .exit) ≡ written r (now (cb .entry))
-        (cbSquare x y (marksOf marks) (recordOf kind (now (modes .entry)) «chroma_mode» (now (numbers .entry))) «cb_stride» (now (cb .entry))) ⌝ }
+        (cbSquare x y (marksOf marks) (recordOf kind (now (modes .entry)) «chroma_mode» (now (numbers .entry))) (strides .cb) (now (cb .entry))) ⌝ }
     ensures { λ r. ⌜ now (cr .exit) ≡ written r (now (cr .entry))
-        (crSquare x y (marksOf marks) (recordOf kind (now (modes .entry)) «chroma_mode» (now (numbers .entry))) «cr_stride» (now (cr .entry))) ⌝ }
+        (crSquare x y (marksOf marks) (recordOf kind (now (modes .entry)) «chroma_mode» (now (numbers .entry))) (strides .cr) (now (cr .entry))) ⌝ }
 {
     let x = x as usize;
     let y = y as usize;
-    if !has_rooms(x, y, luma, luma_stride, cb, cb_stride, cr, cr_stride, marks) {
+    if !has_rooms(x, y, luma, cb, cr, strides, marks) {
         return 2;
     }
     let answer = record_answer(marks, kind, modes, chroma_mode, numbers);
@@ -69,8 +74,8 @@ pub fn rebuild(
     if answer != 0 {
         return answer;
     }
-    luma_square(luma, luma_stride, x, y, marks, kind, modes, &residuals);
-    chroma_square(cb, cb_stride, x, y, marks, chroma_mode, &residuals, 16);
-    chroma_square(cr, cr_stride, x, y, marks, chroma_mode, &residuals, 20);
+    luma_square(luma, strides.luma, x, y, marks, kind, modes, &residuals);
+    chroma_square(cb, strides.cb, x, y, marks, chroma_mode, &residuals, 16);
+    chroma_square(cr, strides.cr, x, y, marks, chroma_mode, &residuals, 20);
     0
 }

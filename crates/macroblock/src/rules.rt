@@ -11,6 +11,7 @@ ghost use Rattle.laws.specs.Answer.{answer};
 ghost use Rattle.maps.specs.Neighbours.{marksOf};
 ghost use Rattle.macroblock.specs.Kinds.{recordOf};
 ghost use Rattle.macroblock.specs.Rules.{room, rooms, used, lastMode, permittedFor, known, permitted, earlyRules};
+use super::Strides;
 use super::cut::Sides;
 use super::cut::across;
 use super::cut::sides_of;
@@ -37,20 +38,17 @@ pub(crate) fn has_rooms(
     x: usize,
     y: usize,
     luma: &[u8],
-    luma_stride: usize,
     cb: &[u8],
-    cb_stride: usize,
     cr: &[u8],
-    cr_stride: usize,
+    strides: Strides,
     marks: Marks,
 ) -> bool
     requires { ⌜ (x < 4294967296) × (y < 4294967296) ⌝ }
-    ensures { λ r. ⌜ r ≡ rooms x y (length (now (luma .entry))) «luma_stride» (length (now (cb .entry))) «cb_stride»
-        (length (now (cr .entry))) «cr_stride» (marksOf marks) ⌝ }
+    ensures { λ r. ⌜ r ≡ rooms x y (length (now (luma .entry))) (length (now (cb .entry))) (length (now (cr .entry))) strides (marksOf marks) ⌝ }
 {
-    let luma = has_room(16, luma.len(), luma_stride, x, y, marks);
-    let cb = has_room(8, cb.len(), cb_stride, x, y, marks);
-    let cr = has_room(8, cr.len(), cr_stride, x, y, marks);
+    let luma = has_room(16, luma.len(), strides.luma, x, y, marks);
+    let cb = has_room(8, cb.len(), strides.cb, x, y, marks);
+    let cr = has_room(8, cr.len(), strides.cr, x, y, marks);
     both(both(luma, cb), cr)
 }
 

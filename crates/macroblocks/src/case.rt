@@ -8,6 +8,7 @@ use libc::STDIN_FILENO;
 use lists::marked;
 use lists::same;
 use lists::wide;
+use macroblock::Strides;
 use maps::neighbours::Marks;
 
 // Whether the port gives the next case's answer and leaves every byte of the planes as the list has it.
@@ -101,15 +102,18 @@ fn rebuild(
     if cr_len > cr.len() {
         return 255;
     }
+    let strides = Strides {
+        luma: two(sizes[0], sizes[1]),
+        cb: two(sizes[4], sizes[5]),
+        cr: two(sizes[8], sizes[9]),
+    };
     macroblock::rebuild(
         wide(head[1]),
         wide(head[2]),
         &mut luma[..luma_len],
-        two(sizes[0], sizes[1]),
         &mut cb[..cb_len],
-        two(sizes[4], sizes[5]),
         &mut cr[..cr_len],
-        two(sizes[8], sizes[9]),
+        strides,
         marks(head[3]),
         head[4],
         modes,

@@ -1,7 +1,8 @@
 -- The progress record, and starting a picture.
-use mathlib.Core.List.{[], _∷_}
+use mathlib.Core.List.{List, [], _∷_}
 use Prim.Native.Nat.{ℕ, _+_, min}
 use lib.Dec.{eqb}
+use lib.ListN.{getD}
 use Rattle.laws.specs.Answer.{_unless_, answer}
 use Rattle.maps.specs.Size.{total, sizeRule}
 use Rattle.maps.specs.declared.progress.Progress.{Progress}
@@ -13,6 +14,10 @@ acceptedOf p a most = record { count = min (p .count + 1) most; last = a }
 -- a started picture's
 abbrev pub begun : Progress
 begun = record { count = 0; last = 0 }
+
+-- the record as a list of its two numbers
+abbrev pub progressOf : List ℕ → Progress
+progressOf l = record { count = getD l 0 0; last = getD l 1 0 }
 
 -- what starting a picture answers, by its size and the done map's length
 unfoldable pub startAnswer : (w h bytes : ℕ) → ℕ

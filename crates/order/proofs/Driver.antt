@@ -8,7 +8,7 @@ use Rattle.laws.specs.Answer.{written}
 use Rattle.laws.specs.Steps.{upTo}
 use Rattle.order.specs.Order.{Alike, Laws, Done, AllDone, Ready, First, build, marked, Permitted, undoneFrom, raster, ones}
 use Rattle.order.specs.Driver.{Driver, View, Started, Fair, after, play, answers, Carries, Spares, Offers}
-use Rattle.order.proofs.Settled.{untouched, ok-run}
+use Rattle.order.proofs.Settled.{done-still, untouched, ok-run}
 use Rattle.order.proofs.Count.{ones-set, ones-le, ones-none, full-done}
 use Rattle.order.proofs.Raster.{raster-permitted, length-raster}
 use Rattle.order.proofs.Undone.{undone-fills}
@@ -163,28 +163,34 @@ module _ {S C M : Type 0} {D : Driver S C} {U : View S M} {n : ℕ} {addr : C �
       pub first-taken : {a : ℕ} {c : C} (s : S) → Sound s → Offers D U n addr N ok a c → First n (U .done s) a → D .answer c s ≡ 0
       first-taken {a} s k o f = taken-now s k o (f .undone) (λ b w. f .below b (earlier a b (f .inside) w))
 
-      module _ {offer : ℕ → C} (A : (a : ℕ) → a < n → Offers D U n addr N ok a (offer a)) where
-        -- a permitted order meets no refusal
+      module _ (offer : ℕ → C) where
+        -- the steps that a state leaves undone, each offered by a call with all that it needs
+        abbrev pub Offered : S → Type 0
+        Offered s = (a : ℕ) → a < n → ¬ Done (U .done s) a → Offers D U n addr N ok a (offer a)
+
+        -- a permitted order of them meets no refusal
         abbrev pub Taken : List ℕ → S → Type 0
         Taken o s = (answers D (map offer o) s ≡ replicate (length o) 0) × (U .done (play D (map offer o) s) ≡ marked o (U .done s))
 
-        pub permitted-taken : (o : List ℕ) (s : S) → Sound s → Permitted n N o (U .done s) → Taken o s
-        permitted-taken [] s k t = (refl, refl)
-        permitted-taken (a ∷ o) s k t =
-            let e = taken-now s k (A a (t .0)) (t .1) (t .2) in
-            let m = done-after (offer a) s e ∙ ap (λ b. set (U .done s) b 1) (A a (t .0) .at-step) in
-            let more = permitted-taken o (after D (offer a) s) (sound-after (offer a) s k) (subst (Permitted n N o) (sym m) (t .3)) in
+        pub permitted-taken : (o : List ℕ) (s : S) → Sound s → Offered s → Permitted n N o (U .done s) → Taken o s
+        permitted-taken [] s k A t = (refl, refl)
+        permitted-taken (a ∷ o) s k A t =
+            let given = A a (t .0) (t .1) in
+            let e = taken-now s k given (t .1) (t .2) in
+            let m = done-after (offer a) s e ∙ ap (λ b. set (U .done s) b 1) (given .at-step) in
+            let still : Offered (after D (offer a) s) = λ b h u. A b h (λ d. u (subst (λ v. Done v b) (sym m) (done-still (U .done s) a b (rw (k .right .long) (t .0)) d))) in
+            let more = permitted-taken o (after D (offer a) s) (sound-after (offer a) s k) still (subst (Permitted n N o) (sym m) (t .3)) in
             (ap₂ (λ x xs. x ∷ xs) e (more .0), more .1 ∙ ap (marked o) m)
 
         -- so what is undone, by address, meets none, and then all is done
-        pub rest-taken : (s : S) → Sound s → Taken (undoneFrom 0 (U .done s)) s
-        rest-taken s k = permitted-taken (undoneFrom 0 (U .done s)) s k (undone-fills n N earlier (U .done s) (k .right .long) .0)
+        pub rest-taken : (s : S) → Sound s → Offered s → Taken (undoneFrom 0 (U .done s)) s
+        rest-taken s k A = permitted-taken (undoneFrom 0 (U .done s)) s k A (undone-fills n N earlier (U .done s) (k .right .long) .0)
 
-        pub rest-full : (s : S) → Sound s → AllDone n (U .done (play D (map offer (undoneFrom 0 (U .done s))) s))
-        rest-full s k a h = subst (λ d. Done d a) (sym (rest-taken s k .1)) (undone-fills n N earlier (U .done s) (k .right .long) .1 a h)
+        pub rest-full : (s : S) → Sound s → Offered s → AllDone n (U .done (play D (map offer (undoneFrom 0 (U .done s))) s))
+        rest-full s k A a h = subst (λ d. Done d a) (sym (rest-taken s k A .1)) (undone-fills n N earlier (U .done s) (k .right .long) .1 a h)
 
         -- from the start, that is the raster order
-        pub raster-taken : {s : S} → Started D U n addr s → ok (U .memory s) → answers D (map offer (raster n)) s ≡ replicate n 0
-        raster-taken {s} st k =
-            permitted-taken (raster n) s (sound-run [] st k) (subst (Permitted n N (raster n)) (sym (st .empty)) (raster-permitted n N earlier)) .0
+        pub raster-taken : {s : S} → Started D U n addr s → ok (U .memory s) → Offered s → answers D (map offer (raster n)) s ≡ replicate n 0
+        raster-taken {s} st k A =
+            permitted-taken (raster n) s (sound-run [] st k) A (subst (Permitted n N (raster n)) (sym (st .empty)) (raster-permitted n N earlier)) .0
             ∙ ap (λ x. replicate x 0) (length-raster n)

@@ -3,22 +3,22 @@
 use mathlib.Core.Path.{_≡_, refl, sym, ap, subst, _∙_}
 use mathlib.Core.List.{List, [], _∷_, _++_, map}
 use Prim.Native.Nat.{ℕ, _<_}
-use lib.ListN.{length}
+use lib.ListN.{length, replicate}
 use lib.Seq.{ext-getD}
 use Rattle.laws.proofs.Answers.{refused}
-use Rattle.order.specs.Order.{Alike, Done, AllDone, undoneFrom, raster}
-use Rattle.order.specs.Driver.{after, play, Carries, Offers}
+use Rattle.order.specs.Order.{Alike, Done, AllDone, First, Permitted, undoneFrom, raster}
+use Rattle.order.specs.Driver.{Fair, Spares, after, play, answers, Carries}
 use Rattle.order.proofs.AnyOrder.{done-agrees, ok-steps}
-use Rattle.order.proofs.Driver.{Sound, done-is-raster, whole-is-raster, padding-kept, ok-kept, counted, count-full, play-append, sound-run, first-taken, permitted-taken, rest-taken, rest-full, raster-taken}
+use Rattle.order.proofs.Driver.{Sound, done-is-raster, whole-is-raster, padding-kept, ok-kept, counted, count-full, play-append, sound-run, first-taken, Offered, Taken, permitted-taken, rest-taken, rest-full, raster-taken}
 use Rattle.order.proofs.Raster.{raster-permitted, raster-done, build-raster}
 use Rattle.order.proofs.Undone.{some-first}
 use Rattle.maps.specs.Progress.{startAnswer}
 use Rattle.picture.specs.Planes.{Plane}
-use Rattle.picture.specs.Rebuild.{Call, Lent, here}
-use Rattle.picture.specs.Run.{Picture, totalOf, offer, AllAcceptable, Waits, Awaits, Lends, Planes, decoded, Place, sampleAt, Region, InPicture, driver, started, run, Own, rest, Event, passed, callsOf, StartsRefused}
+use Rattle.picture.specs.Rebuild.{Call, Lent, here, Acceptable, answerTo}
+use Rattle.picture.specs.Run.{Picture, totalOf, offer, AllAcceptable, RestAcceptable, Waits, Awaits, Lends, Planes, decoded, Place, sampleAt, Region, InPicture, driver, started, run, Own, rest, Event, passed, callsOf, StartsRefused}
 use Rattle.picture.specs.Run.Event.{offers, starts}
 use Rattle.picture.specs.AnyOrder.{AnyOrder}
-use Rattle.picture.proofs.OnePicture.{view, fair, spares, step, offer-here, carries, Good, begins, planes-kept, laws, told, acceptable}
+use Rattle.picture.proofs.OnePicture.{view, fair, spares, step, offer-here, carries, bytes, Good, begins, planes-kept, laws, told, acceptable}
 use Rattle.picture.proofs.Rules.{not-ready-when, never-first}
 
 -- starts that are refused leave everything
@@ -67,22 +67,44 @@ module _ (g : Picture) (s : Lent) (lends : Lends g s) where
       ∙ done-agrees (laws g s lends) (raster (totalOf g)) (s .planes) t (λ q. refl) same (raster-permitted (totalOf g) (Awaits g) (laws g s lends .earlier)) a h (raster-done (totalOf g) a h) i r
 
   -- ---- any runs
-  sound : (cs : List Call) → Sound (fair (totalOf g)) (spares (totalOf g) (λ p. length (s .planes p))) (run g cs s)
-  sound cs = sound-run (fair (totalOf g)) (spares (totalOf g) (λ p. length (s .planes p))) cs (begins g s lends) good
+  fairly : Fair driver view (totalOf g) here Waits
+  fairly = fair (totalOf g)
 
-  offered : AllAcceptable g → (a : ℕ) → a < totalOf g → Offers driver view (totalOf g) here (Awaits g) (Good g s lends) a (offer g a)
-  offered ok a h = acceptable g s lends a h (ok a h)
+  sparing : Spares driver view (totalOf g) here (Good g s lends)
+  sparing = spares (totalOf g) (bytes g s lends)
 
-  finishes : (cs : List Call) → AllAcceptable g → AllDone (totalOf g) (play driver (rest g (run g cs s .done)) (run g cs s) .done)
-  finishes cs ok = rest-full (fair (totalOf g)) (spares (totalOf g) (λ p. length (s .planes p))) (laws g s lends .earlier) (offered ok) (run g cs s) (sound cs)
+  waits : (a b : ℕ) → a < totalOf g → Awaits g a b → b < a
+  waits = laws g s lends .earlier
 
-  right : (cs : List Call) → AllAcceptable g → Own g cs (started g s) → (p : Plane) → play driver (rest g (run g cs s .done)) (run g cs s) .planes p ≡ decoded g (s .planes) p
-  right cs ok own p =
-      let ds = rest g (run g cs s .done) in
-      let e = play-append driver cs ds (started g s) in
-      ap (λ t. t .planes p) (sym e)
-      ∙ whole (cs ++ ds) (own-append g cs ds (started g s) own (own-offers g (undoneFrom 0 (run g cs s .done)) (run g cs s)))
-      (λ a h. subst (λ t. Done (t .done) a) (sym e) (finishes cs ok a h)) p
+  sound : (cs : List Call) → Sound fairly sparing (run g cs s)
+  sound cs = sound-run fairly sparing cs (begins g s lends) good
+
+  offered : (t : Lent) → RestAcceptable g (t .done) → Offered fairly sparing waits (offer g) t
+  offered t ok a h u = acceptable g s lends a h (ok a h u)
+
+  first : (cs : List Call) (a : ℕ) → First (totalOf g) (run g cs s .done) a → Acceptable (offer g a) → answerTo (offer g a) (run g cs s) ≡ 0
+  first cs a f ok = first-taken fairly sparing waits (run g cs s) (sound cs) (acceptable g s lends a (f .inside) ok) f
+
+  module _ (cs : List Call) (ok : RestAcceptable g (run g cs s .done)) where
+    remaining : Taken fairly sparing waits (offer g) (undoneFrom 0 (run g cs s .done)) (run g cs s)
+    remaining = rest-taken fairly sparing waits (offer g) (run g cs s) (sound cs) (offered (run g cs s) ok)
+
+    finishes : AllDone (totalOf g) (play driver (rest g (run g cs s .done)) (run g cs s) .done)
+    finishes = rest-full fairly sparing waits (offer g) (run g cs s) (sound cs) (offered (run g cs s) ok)
+
+    right : Own g cs (started g s) → (p : Plane) → play driver (rest g (run g cs s .done)) (run g cs s) .planes p ≡ decoded g (s .planes) p
+    right own p =
+        let ds = rest g (run g cs s .done) in
+        let e = play-append driver cs ds (started g s) in
+        ap (λ t. t .planes p) (sym e)
+        ∙ whole (cs ++ ds) (own-append g cs ds (started g s) own (own-offers g (undoneFrom 0 (run g cs s .done)) (run g cs s)))
+        (λ a h. subst (λ t. Done (t .done) a) (sym e) (finishes a h)) p
+
+    permitted : (o : List ℕ) → Permitted (totalOf g) (Awaits g) o (run g cs s .done) → answers driver (map (offer g) o) (run g cs s) ≡ replicate (length o) 0
+    permitted o t = permitted-taken fairly sparing waits (offer g) o (run g cs s) (sound cs) (offered (run g cs s) ok) t .0
+
+  in-raster : AllAcceptable g → answers driver (map (offer g) (raster (totalOf g))) (started g s) ≡ replicate (totalOf g) 0
+  in-raster ok = raster-taken fairly sparing waits (offer g) (begins g s lends) good (offered (started g s) (λ a h u. ok a h))
 
 -- ---- demand 3
 pub any-order : (g : Picture) → AnyOrder g
@@ -97,13 +119,10 @@ any-order g = record {
   not-ready = not-ready-when;
   first-undone = never-first;
   some-first = λ cs s. some-first (run g cs s .done) (totalOf g);
-  first-accepted = λ cs s l a f ok.
-      first-taken (fair (totalOf g)) (spares (totalOf g) (λ p. length (s .planes p))) (laws g s l .earlier) (run g cs s) (sound g s l cs) (acceptable g s l a (f .inside) ok) f;
-  rest-accepted = λ cs s l ok.
-      rest-taken (fair (totalOf g)) (spares (totalOf g) (λ p. length (s .planes p))) (laws g s l .earlier) (offered g s l ok) (run g cs s) (sound g s l cs) .0;
+  first-accepted = λ cs s l. first g s l cs;
+  rest-accepted = λ cs s l ok. remaining g s l cs ok .0;
   rest-done = λ cs s l. finishes g s l cs;
   rest-right = λ cs s l. right g s l cs;
-  any-permitted = λ cs s l ok o t.
-      permitted-taken (fair (totalOf g)) (spares (totalOf g) (λ p. length (s .planes p))) (laws g s l .earlier) (offered g s l ok) o (run g cs s) (sound g s l cs) t .0;
-  possible = λ s l ok. raster-taken (fair (totalOf g)) (spares (totalOf g) (λ p. length (s .planes p))) (laws g s l .earlier) (offered g s l ok) (begins g s l) (good g s l);
+  any-permitted = λ cs s l. permitted g s l cs;
+  possible = λ s l. in-raster g s l;
 }

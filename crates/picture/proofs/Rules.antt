@@ -11,7 +11,7 @@ use Rattle.laws.specs.Answer.{Check, answer}
 use Rattle.laws.proofs.Answers.{holds, broken, passes-by, answer-without, answer-later, answer-earlier, earlier-hold}
 use Rattle.laws.proofs.Tests.{no-from}
 use Rattle.order.specs.Order.{Done}
-use Rattle.maps.specs.Done.{isDone, allSettled, readyRule}
+use Rattle.maps.specs.Done.{isDone, allSettled}
 use Rattle.maps.specs.Neighbours.{Side, beside}
 use Rattle.maps.specs.Size.{Size, sizeOk, Stands, placeOk}
 use Rattle.maps.proofs.Beside.{available-at}
@@ -19,7 +19,7 @@ use Rattle.maps.proofs.Sizes.{size-is, size-yes, place-is, place-yes}
 use Rattle.maps.proofs.Waiting.{settled-is, settled-no}
 use Rattle.macroblock.specs.Rules.{listsGood, knownRule, permittedRule, numbersRule}
 use Rattle.picture.specs.Planes.{roomOk}
-use Rattle.picture.specs.Rebuild.{Call, Lent, here, marks, waitsFor, rules, answerTo, earlierRules, earlier, recordRules}
+use Rattle.picture.specs.Rebuild.{Call, Lent, here, marks, waitsFor, neighboursRule, rules, answerTo, earlierRules, earlier, recordRules}
 use Rattle.picture.proofs.Lending.{LentRoom, room-is, room-yes}
 
 module _ (c : Call) (s : Lent) where
@@ -58,34 +58,31 @@ module _ (c : Call) (s : Lent) where
         g .undone,
       )
 
-  -- the rules from the fifth on
+  -- the fifth rule, and those after it
   abbrev pub readyNow : Bool
   readyNow = allSettled (c .width) (c .x) (c .y) (waitsFor c) (s .done)
-
-  abbrev fifth : Check
-  fifth = readyRule (c .width) (c .x) (c .y) (waitsFor c) (s .done)
 
   abbrev last : List Check
   last = knownRule (c .mb) ∷ permittedRule (marks c) (c .mb) ∷ numbersRule (c .mb) ∷ []
 
-  in-order : rules c s ≡ earlierRules c s ++ (fifth ∷ last)
+  in-order : rules c s ≡ earlierRules c s ++ (neighboursRule c s ∷ last)
   unfolding rules earlierRules
   in-order = refl
 
-  late : earlier c s ≡ 0 → answerTo c s ≡ answer (fifth ∷ last)
+  late : earlier c s ≡ 0 → answerTo c s ≡ answer (neighboursRule c s ∷ last)
   unfolding earlierRules
-  late e = rw in-order (answer-later (earlierRules c s) (fifth ∷ last) tt e)
+  late e = rw in-order (answer-later (earlierRules c s) (neighboursRule c s ∷ last) tt e)
 
   pub refused-by : ¬ (earlier c s ≡ 0) → answerTo c s ≡ earlier c s
-  refused-by n = rw in-order (answer-earlier (earlierRules c s) (fifth ∷ last) n)
+  refused-by n = rw in-order (answer-earlier (earlierRules c s) (neighboursRule c s ∷ last) n)
 
   -- a call that is accepted passed them, and so did one that is not ready
   pub passed-0 : answerTo c s ≡ 0 → earlier c s ≡ 0
-  passed-0 e = earlier-hold 0 (earlierRules c s) (fifth ∷ last) (λ n. n) (rw in-order at e)
+  passed-0 e = earlier-hold 0 (earlierRules c s) (neighboursRule c s ∷ last) (λ n. n) (rw in-order at e)
 
   passed-5 : answerTo c s ≡ 5 → earlier c s ≡ 0
   unfolding earlierRules
-  passed-5 e = earlier-hold 5 (earlierRules c s) (fifth ∷ last) (λ _. answer-without 4 (earlierRules c s) tt) (rw in-order at e)
+  passed-5 e = earlier-hold 5 (earlierRules c s) (neighboursRule c s ∷ last) (λ _. answer-without 4 (earlierRules c s) tt) (rw in-order at e)
 
   pub not-ready : earlier c s ≡ 0 → readyNow ≡ false → answerTo c s ≡ 5
   not-ready e f = late e ∙ broken 5 last f

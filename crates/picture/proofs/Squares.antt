@@ -15,6 +15,7 @@ use Rattle.maps.specs.Neighbours.Side.{A, B, C, D}
 use Rattle.maps.specs.Size.{Stands}
 use Rattle.maps.proofs.Beside.{available-inside}
 use Rattle.macroblock.specs.Rules.{room, rooms, rebuildAnswer}
+use Rattle.macroblock.specs.declared.Strides.{Strides}
 use Rattle.macroblock.specs.Local.{Local, Promise}
 use Rattle.macroblock.proofs.Promised.{promised}
 use Rattle.picture.specs.Planes.{Plane, side}
@@ -63,8 +64,11 @@ side-pos cr = omega arith
 
 -- a call whose macroblock lies in the picture, over planes of so many bytes each
 module _ (c : Call) (bytes : Plane → ℕ) (fits : (p : Plane) → PlaneRoom (side p) (c .width) (c .height) (c .stride p) (bytes p)) (place : Stands (c .width) (c .height) (c .x) (c .y)) where
+  abbrev strides : Strides
+  strides = record { luma = c .stride luma; cb = c .stride cb; cr = c .stride cr }
+
   abbrev pub roomsOf : (Side → Bool) → Bool
-  roomsOf m = rooms (c .x) (c .y) (bytes luma) (c .stride luma) (bytes cb) (c .stride cb) (bytes cr) (c .stride cr) m
+  roomsOf m = rooms (c .x) (c .y) (bytes luma) (bytes cb) (bytes cr) strides m
 
   pub rooms-hold : roomsOf (marks c) ≡ true
   rooms-hold = and-of (and-of (room-in luma) (room-in cb)) (room-in cr)
@@ -78,8 +82,8 @@ module _ (c : Call) (bytes : Plane → ℕ) (fits : (p : Plane) → PlaneRoom (s
   by-macroblock m {r} e f = f ∙ ap (λ n. rebuildAnswer (roomsOf n) n (c .mb)) e ∙ holds 2 (recordRules c) rooms-hold
 
   -- and its promise holds in each plane
-  kept-promise : Promise (c .x) (c .y) (bytes luma) (c .stride luma) (bytes cb) (c .stride cb) (bytes cr) (c .stride cr) (marks c) (c .mb)
-  kept-promise = promised (c .x) (c .y) (bytes luma) (c .stride luma) (bytes cb) (c .stride cb) (bytes cr) (c .stride cr) (marks c) (c .mb) rooms-hold
+  kept-promise : Promise (c .x) (c .y) (bytes luma) (bytes cb) (bytes cr) strides (marks c) (c .mb)
+  kept-promise = promised (c .x) (c .y) (bytes luma) (bytes cb) (bytes cr) strides (marks c) (c .mb) rooms-hold
 
   pub square-local : (p : Plane) → Local (bytes p) (side p) (c .stride p) (c .x) (c .y) (marks c) (squareIn c p)
   square-local luma = kept-promise .luma

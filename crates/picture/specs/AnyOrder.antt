@@ -10,7 +10,7 @@ use Rattle.order.specs.Order.{Alike, Done, AllDone, First, Permitted, undoneFro
 use Rattle.maps.specs.Neighbours.{Side, beside}
 use Rattle.picture.specs.Planes.{Plane}
 use Rattle.picture.specs.Rebuild.{Call, Lent, here, waitsFor, Acceptable, answerTo, earlier}
-use Rattle.picture.specs.Run.{Picture, totalOf, offer, AllAcceptable, Awaits, Lends, decoded, Place, sampleAt, Region, InPicture}
+use Rattle.picture.specs.Run.{Picture, totalOf, offer, AllAcceptable, RestAcceptable, Awaits, Lends, decoded, Place, sampleAt, Region, InPicture}
 use Rattle.picture.specs.Run.{driver, started, run, Own, rest, Event, passed, callsOf, StartsRefused}
 
 pub record AnyOrder (g : Picture) : Type 0 where
@@ -43,14 +43,16 @@ pub record AnyOrder (g : Picture) : Type 0 where
   pub some-first : (cs : List Call) (s : Lent) → ¬ AllDone (totalOf g) (run g cs s .done) → (a : ℕ) × First (totalOf g) (run g cs s .done) a
   pub first-accepted : (cs : List Call) (s : Lent) → Lends g s → (a : ℕ) → First (totalOf g) (run g cs s .done) a → Acceptable (offer g a)
       → answerTo (offer g a) (run g cs s) ≡ 0
-  -- so from every state that a run reaches, the undone macroblocks by address meet no refusal and finish the picture; it is the right one if the run's
-  -- records were its own
-  pub rest-accepted : (cs : List Call) (s : Lent) → Lends g s → AllAcceptable g
+  -- so from every state that a run reaches, the undone macroblocks by address, their records acceptable, meet no refusal and finish the picture; it is the
+  -- right one if the run's records were its own
+  pub rest-accepted : (cs : List Call) (s : Lent) → Lends g s → RestAcceptable g (run g cs s .done)
       → answers driver (rest g (run g cs s .done)) (run g cs s) ≡ replicate (length (undoneFrom 0 (run g cs s .done))) 0
-  pub rest-done : (cs : List Call) (s : Lent) → Lends g s → AllAcceptable g → AllDone (totalOf g) (play driver (rest g (run g cs s .done)) (run g cs s) .done)
-  pub rest-right : (cs : List Call) (s : Lent) → Lends g s → AllAcceptable g → Own g cs (started g s)
+  pub rest-done : (cs : List Call) (s : Lent) → Lends g s → RestAcceptable g (run g cs s .done)
+      → AllDone (totalOf g) (play driver (rest g (run g cs s .done)) (run g cs s) .done)
+  pub rest-right : (cs : List Call) (s : Lent) → Lends g s → RestAcceptable g (run g cs s .done) → Own g cs (started g s)
       → (p : Plane) → play driver (rest g (run g cs s .done)) (run g cs s) .planes p ≡ decoded g (s .planes) p
   -- and so does every order from there in which each macroblock comes after those that it waits for; from the start, raster order is one
-  pub any-permitted : (cs : List Call) (s : Lent) → Lends g s → AllAcceptable g → (o : List ℕ) → Permitted (totalOf g) (Awaits g) o (run g cs s .done)
+  pub any-permitted : (cs : List Call) (s : Lent) → Lends g s → RestAcceptable g (run g cs s .done)
+      → (o : List ℕ) → Permitted (totalOf g) (Awaits g) o (run g cs s .done)
       → answers driver (map (offer g) o) (run g cs s) ≡ replicate (length o) 0
   pub possible : (s : Lent) → Lends g s → AllAcceptable g → answers driver (map (offer g) (raster (totalOf g))) (started g s) ≡ replicate (totalOf g) 0

@@ -13,6 +13,8 @@ use Rattle.maps.specs.declared.progress.Progress.{Progress}
 use Rattle.macroblock.specs.Kinds.{lumaSquare, cbSquare, crSquare}
 use Rattle.macroblock.specs.Rules.{listRule, knownRule, permittedRule, numbersRule}
 use Rattle.macroblock.specs.declared.Record.{Record}
+use Rattle.macroblock.specs.declared.Strides.{Strides}
+use Rattle.picture.specs.declared.Spot.{Spot}
 use Rattle.picture.specs.Planes.{Plane, three, roomOk}
 use Rattle.picture.specs.Planes.Plane.{luma, cb, cr}
 
@@ -26,9 +28,9 @@ pub record Call : Type 0 where
   pub slices : List ℕ
   pub mb : Record
 
-abbrev pub call : (w h x y lumaStride cbStride crStride : ℕ) → List ℕ → Record → Call
-call w h x y lumaStride cbStride crStride slices mb =
-    record { width = w; height = h; x = x; y = y; stride = three lumaStride cbStride crStride; slices = slices; mb = mb }
+abbrev pub call : Spot → Strides → List ℕ → Record → Call
+call p s slices mb =
+    record { width = p .w; height = p .h; x = p .x; y = p .y; stride = three (s .luma) (s .cb) (s .cr); slices = slices; mb = mb }
 
 -- what it is lent, and may change
 pub record Lent : Type 0 where
@@ -55,6 +57,10 @@ waitsFor c = marks c
 abbrev pub lentRule : Call → Lent → Check
 lentRule c s = 2 unless roomOk (c .width) (c .height) (c .stride) (λ p. length (s .planes p)) (length (s .done)) (length (c .slices)) (s .progress .count)
 
+-- 5: the neighbours that it waits for are done
+abbrev pub neighboursRule : Call → Lent → Check
+neighboursRule c s = readyRule (c .width) (c .x) (c .y) (waitsFor c) (s .done)
+
 unfoldable pub rules : Call → Lent → List Check
 rules c s =
     sizeRule (c .width) (c .height)
@@ -62,7 +68,7 @@ rules c s =
     ∷ listRule (c .mb)
     ∷ placeRule (c .width) (c .height) (c .x) (c .y)
     ∷ undoneRule (s .done) (here c)
-    ∷ readyRule (c .width) (c .x) (c .y) (waitsFor c) (s .done)
+    ∷ neighboursRule c s
     ∷ knownRule (c .mb)
     ∷ permittedRule (marks c) (c .mb)
     ∷ numbersRule (c .mb)

@@ -8,7 +8,7 @@ use lib.ListN.{getD, length, replicate}
 use Rattle.laws.specs.Answer.{written}
 use Rattle.laws.specs.Steps.{upTo}
 use Rattle.order.specs.Driver.{Driver, after, play}
-use Rattle.order.specs.Order.{undoneFrom}
+use Rattle.order.specs.Order.{Done, undoneFrom}
 use Rattle.maps.specs.Neighbours.{Side, beside}
 use Rattle.maps.specs.Progress.{begun, startAnswer}
 use Rattle.maps.specs.Size.{total}
@@ -32,9 +32,12 @@ totalOf g = total (g .width) (g .height)
 abbrev pub offer : Picture → ℕ → Call
 offer g a = record { width = g .width; height = g .height; x = a % g .width; y = a / g .width; stride = g .stride; slices = g .slices; mb = g .records a }
 
--- each macroblock's own record is acceptable
+-- each macroblock's own record is acceptable, and so is that of each one that a map leaves undone
 abbrev pub AllAcceptable : Picture → Type 0
 AllAcceptable g = (a : ℕ) → a < totalOf g → Acceptable (offer g a)
+
+abbrev pub RestAcceptable : Picture → List ℕ → Type 0
+RestAcceptable g done = (a : ℕ) → a < totalOf g → ¬ Done done a → Acceptable (offer g a)
 
 -- macroblock b is one that a call waits for, and one that macroblock a waits for
 abbrev pub Waits : Call → ℕ → Type 0

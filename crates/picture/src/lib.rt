@@ -3,13 +3,14 @@ ghost use mathlib.Core.Path.{_≡_};
 ghost use Rattle.macroblock.specs.Kinds.{recordOf};
 ghost use Rattle.macroblock.specs.Rules.{listsGood};
 ghost use Rattle.macroblock.specs.declared.Record.{Record};
+ghost use Rattle.maps.specs.Progress.{progressOf};
 ghost use Rattle.picture.specs.AnyOrder.{AnyOrder};
 ghost use Rattle.picture.specs.Rebuild.{call, lent, earlier, Rebuilds};
 ghost use Rattle.picture.specs.Run.{Picture};
+use macroblock::Strides;
 use maps::done::is_done;
 use maps::done::ready;
 use maps::neighbours::marks_of;
-use maps::progress::Outcome;
 use maps::progress::Progress;
 use maps::progress::accepted;
 use maps::size::place_ok;
@@ -19,40 +20,41 @@ use planes::room_ok;
 
 mod planes; // the memory that is lent
 
+// Where a macroblock stands: the picture's size in macroblocks, and the macroblock's column and row.
+pub struct Spot {
+    pub w: u32,
+    pub h: u32,
+    pub x: u32,
+    pub y: u32,
+}
+
 // The refusals of a macroblock call before its neighbours are looked at, or 0: for every record whose lists are as long as `lists` says.
 fn refuse(
-    w: u32,
-    h: u32,
-    x: u32,
-    y: u32,
+    spot: Spot,
     luma: &[u8],
-    luma_stride: usize,
     cb: &[u8],
-    cb_stride: usize,
     cr: &[u8],
-    cr_stride: usize,
+    strides: Strides,
     done: &[u8],
     slices: &[u16],
     progress: Progress,
     lists: bool,
 ) -> u32
-    ensures { λ r. ⌜ ((m : Record) → listsGood m ≡ lists → r ≡ earlier (call w h x y «luma_stride» «cb_stride» «cr_stride» (now (slices .entry)) m)
+    ensures { λ r. ⌜ ((m : Record) → listsGood m ≡ lists → r ≡ earlier (call spot strides (now (slices .entry)) m)
         (lent (now (luma .entry)) (now (cb .entry)) (now (cr .entry)) (now (done .entry)) progress)) ⌝ }
 {
-    if !size_ok(w, h) {
+    if !size_ok(spot.w, spot.h) {
         return 1;
     }
-    let columns = w as usize;
-    let rows = h as usize;
+    let columns = spot.w as usize;
+    let rows = spot.h as usize;
     let room = room_ok(
         columns,
         rows,
         luma.len(),
-        luma_stride,
         cb.len(),
-        cb_stride,
         cr.len(),
-        cr_stride,
+        strides,
         done.len(),
         slices.len(),
         progress.count,
@@ -63,80 +65,57 @@ fn refuse(
     if !lists {
         return 2;
     }
-    if !place_ok(w, h, x, y) {
+    if !place_ok(spot.w, spot.h, spot.x, spot.y) {
         return 3;
     }
-    let here = (y as usize) * columns + (x as usize);
+    let here = (spot.y as usize) * columns + (spot.x as usize);
     if is_done(done, here) {
         return 4;
     }
     0
 }
 
-// Rebuilds macroblock (x, y) of a picture from a record's parts, with the progress record by value.
-pub fn rebuild_core(
-    w: u32,
-    h: u32,
-    x: u32,
-    y: u32,
+// Rebuilds a macroblock of a picture from a record's parts: in any order that it accepts, the picture is the right one. The progress record is its two
+// numbers, stored only where the answer is 0.
+pub fn rebuild(
+    spot: Spot,
     luma: &mut [u8],
-    luma_stride: usize,
     cb: &mut [u8],
-    cb_stride: usize,
     cr: &mut [u8],
-    cr_stride: usize,
+    strides: Strides,
     done: &mut [u8],
     slices: &[u16],
-    progress: Progress,
+    progress: &mut [u32; 2],
     kind: u8,
     modes: &[u8],
     chroma_mode: u8,
     numbers: &[i32],
-) -> Outcome
-    ensures { λ r. ⌜ Rebuilds
-        (call w h x y «luma_stride» «cb_stride» «cr_stride» (now (slices .entry)) (recordOf kind (now (modes .entry)) «chroma_mode» (now (numbers .entry))))
-        (lent (now (luma .entry)) (now (cb .entry)) (now (cr .entry)) (now (done .entry)) progress)
-        (r .answer) (lent (now (luma .exit)) (now (cb .exit)) (now (cr .exit)) (now (done .exit)) (r .progress)) ⌝ }
+) -> u32
+    ensures { λ r. ⌜ Rebuilds (call spot strides (now (slices .entry)) (recordOf kind (now (modes .entry)) «chroma_mode» (now (numbers .entry))))
+        (lent (now (luma .entry)) (now (cb .entry)) (now (cr .entry)) (now (done .entry)) (progressOf (now (progress .entry))))
+        r (lent (now (luma .exit)) (now (cb .exit)) (now (cr .exit)) (now (done .exit)) (progressOf (now (progress .exit)))) ⌝ }
+    ensures { λ _. ⌜ ((g : Picture) → AnyOrder g) ⌝ }
 {
-    let ls = luma_stride;
-    let bs = cb_stride;
-    let rs = cr_stride;
+    let before = Progress {
+        count: progress[0],
+        last: progress[1],
+    };
     let lists = both(modes.len() == 16, numbers.len() == 384);
-    let answer = refuse(
-        w,
-        h,
-        x,
-        y,
-        luma,
-        ls,
-        cb,
-        bs,
-        cr,
-        rs,
-        done,
-        slices,
-        progress,
-        lists,
-    );
+    let answer = refuse(spot, luma, cb, cr, strides, done, slices, before, lists);
     if answer != 0 {
-        return Outcome { answer, progress };
+        return answer;
     }
-    let marks = marks_of(slices, w, h, x, y);
-    if !ready(done, w, x, y, marks) {
-        return Outcome {
-            answer: 5,
-            progress,
-        };
+    let marks = marks_of(slices, spot.w, spot.h, spot.x, spot.y);
+    if !ready(done, spot.w, spot.x, spot.y, marks) {
+        return 5;
     }
     let answer = macroblock::rebuild(
-        x,
-        y,
+        spot.x,
+        spot.y,
         luma,
-        ls,
         cb,
-        bs,
         cr,
-        rs,
+        strides,
         marks,
         kind,
         modes,
@@ -144,65 +123,12 @@ pub fn rebuild_core(
         numbers,
     );
     if answer != 0 {
-        return Outcome { answer, progress };
+        return answer;
     }
-    let here = y * w + x;
-    let place = here as usize;
-    done[place] = 1;
-    let after = accepted(progress, here, h * w);
-    Outcome {
-        answer: 0,
-        progress: after,
-    }
-}
-
-// Rebuilds macroblock (x, y) of a picture: in any order that it accepts, the picture is the right one. The record is stored only where the answer is 0.
-pub fn rebuild(
-    w: u32,
-    h: u32,
-    x: u32,
-    y: u32,
-    luma: &mut [u8],
-    luma_stride: usize,
-    cb: &mut [u8],
-    cb_stride: usize,
-    cr: &mut [u8],
-    cr_stride: usize,
-    done: &mut [u8],
-    slices: &[u16],
-    progress: &mut Progress,
-    kind: u8,
-    modes: &[u8],
-    chroma_mode: u8,
-    numbers: &[i32],
-) -> u32
-    ensures { λ r. ⌜ Rebuilds
-        (call w h x y «luma_stride» «cb_stride» «cr_stride» (now (slices .entry)) (recordOf kind (now (modes .entry)) «chroma_mode» (now (numbers .entry))))
-        (lent (now (luma .entry)) (now (cb .entry)) (now (cr .entry)) (now (done .entry)) (now (progress .entry)))
-        r (lent (now (luma .exit)) (now (cb .exit)) (now (cr .exit)) (now (done .exit)) (now (progress .exit)))
-        × ((g : Picture) → AnyOrder g) ⌝ }
-{
-    let s = rebuild_core(
-        w,
-        h,
-        x,
-        y,
-        luma,
-        luma_stride,
-        cb,
-        cb_stride,
-        cr,
-        cr_stride,
-        done,
-        slices,
-        *progress,
-        kind,
-        modes,
-        chroma_mode,
-        numbers,
-    );
-    if s.answer == 0 {
-        *progress = s.progress;
-    }
-    s.answer
+    let here = spot.y * spot.w + spot.x;
+    done[here as usize] = 1;
+    let after = accepted(before, here, spot.h * spot.w);
+    let both = [after.count, after.last];
+    *progress = both;
+    0
 }

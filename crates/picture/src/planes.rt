@@ -4,6 +4,7 @@ ghost use mathlib.Core.Bool.{_&&_};
 ghost use Prim.Native.Nat.{_≤_};
 ghost use Rattle.maps.specs.Size.{Size};
 ghost use Rattle.picture.specs.Planes.{three, planeOk, roomOk};
+use macroblock::Strides;
 
 pub(crate) fn both(p: bool, q: bool) -> bool
     ensures { λ r. ⌜ r ≡ p && q ⌝ }
@@ -32,26 +33,22 @@ pub(crate) fn room_ok(
     w: usize,
     h: usize,
     luma_bytes: usize,
-    luma_stride: usize,
     cb_bytes: usize,
-    cb_stride: usize,
     cr_bytes: usize,
-    cr_stride: usize,
+    strides: Strides,
     done_bytes: usize,
     slices: usize,
     accepted: u32,
 ) -> bool
     requires { ⌜ Size w h ⌝ }
-    ensures { λ r. ⌜ r ≡ roomOk w h (three «luma_stride» «cb_stride» «cr_stride»)
+    ensures { λ r. ⌜ r ≡ roomOk w h (three (strides .luma) (strides .cb) (strides .cr))
         (three «luma_bytes» «cb_bytes» «cr_bytes») «done_bytes» slices accepted ⌝ }
 {
-    let luma = plane_ok(16, w, h, luma_stride, luma_bytes);
-    let cb = plane_ok(8, w, h, cb_stride, cb_bytes);
-    let cr = plane_ok(8, w, h, cr_stride, cr_bytes);
+    let luma = plane_ok(16, w, h, strides.luma, luma_bytes);
+    let cb = plane_ok(8, w, h, strides.cb, cb_bytes);
+    let cr = plane_ok(8, w, h, strides.cr, cr_bytes);
     let total = h * w;
-    let maps = both(
-        both(both(both(luma, cb), cr), done_bytes == total),
-        slices == total,
-    );
+    let planes = both(both(luma, cb), cr);
+    let maps = both(both(planes, done_bytes == total), slices == total);
     both(maps, accepted as usize <= total)
 }

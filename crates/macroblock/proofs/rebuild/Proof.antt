@@ -33,19 +33,19 @@ abbrev fine : tie.Else3 → tie.Else2
 fine c = c .before .before .before .before
 
 has : (c : tie.Else1) → let a = start c .args in
-    rooms (a .x) (a .y) (length (a .luma .now)) (a .luma-stride) (length (a .cb .now)) (a .cb-stride) (length (a .cr .now)) (a .cr-stride) (marksOf (a .marks)) ≡ true
+    rooms (a .x) (a .y) (length (a .luma .now)) (length (a .cb .now)) (length (a .cr .now)) (a .strides) (marksOf (a .marks)) ≡ true
 has c = sym (c .before .has-rooms .ensures) ∙ not-false _ (c .if1 .left)
 
 -- what is known when nothing is refused but for the numbers
 record Standing (u : tie.Start) : Type 0 where
   pub squares : let a = u .args in
-      AllStand (a .x) (a .y) (length (a .luma .now)) (a .luma-stride) (length (a .cb .now)) (a .cb-stride) (length (a .cr .now)) (a .cr-stride) (marksOf (a .marks))
+      AllStand (a .x) (a .y) (length (a .luma .now)) (length (a .cb .now)) (length (a .cr .now)) (a .strides) (marksOf (a .marks))
   pub good : EarlyFine (marksOf (u .args .marks)) (given u)
 
 standing : (c : tie.Else2) → Standing (start (roomed c))
 standing c =
     let u = start (roomed c) in
-    record { squares = all-stand _ _ _ _ _ _ _ _ (marksOf (u .args .marks)) (has (roomed c)); good = early-fine (marksOf (u .args .marks)) (given u) (sym (c .before .record-answer .ensures) ∙ omega arith) }
+    record { squares = all-stand _ _ _ _ _ _ (marksOf (u .args .marks)) (has (roomed c)); good = early-fine (marksOf (u .args .marks)) (given u) (sym (c .before .record-answer .ensures) ∙ omega arith) }
 
 -- the answer of the record's lists and modes is 0
 passed : (c : tie.Else2) → c .before .record-answer .result ≡ 0
