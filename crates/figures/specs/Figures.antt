@@ -7,15 +7,15 @@ use lib.IntN.{ℤ, pos}
 use lib.ListN.{replicate, set}
 use Rattle.laws.specs.Range.{minus}
 use Rattle.laws.specs.Table.{table, sumOf, sumZ}
-use Rattle.residual.specs.Clip.{Clip1}
+use Rattle.basics.specs.Clip.{Clip1}
 use Rattle.samples.specs.Intra16x16.{predL}
 use Rattle.samples.specs.IntraChroma.{regionDc, predC}
 use Rattle.intra_nxn.specs.IntraNxN.{predNxN, pred4x4L, filteredSide, filteredCorner, filtered}
 use Rattle.intra_nxn.specs.IntraNxN.{downLeft, downRight, verticalRight, horizontalDown, verticalLeft, horizontalUp}
 use Rattle.residual.specs.Inverse.{oneDimensional, rowOf, columnOf, rounded, inverse4x4}
-use Rattle.samples.specs.Near.{Near, near, mean, dc}
+use Rattle.basics.specs.Near.{Near, near, mean, dc}
 use Rattle.samples.specs.PlaneMode.{slope, ramp, plane}
-use Rattle.residual.specs.Qp.{QPc, table815}
+use Rattle.basics.specs.Qp.{QPc, table815}
 use Rattle.macroblock.specs.Square.{placeAt, aboveOf, leftOf, cornerOf, nearBlock}
 
 -- what the definitions give, and what the rules say that they give

@@ -10,7 +10,7 @@ use lib.Seq.{getD-set-same, getD-set-other}
 use borrow.Author.Tests.{ne-eqb, eqb-true, eqb-false}
 use Rattle.laws.proofs.Tests.{choose}
 use Rattle.intra_nxn.specs.IntraNxN.{mean3, filtered, filteredSide, filteredCorner}
-use Rattle.samples.specs.Near.{Near}
+use Rattle.basics.specs.Near.{Near}
 use Rattle.intra_nxn.specs.inner.Run.{Run, Filtered}
 use Rattle.intra_nxn.proofs.Places.{turn}
 

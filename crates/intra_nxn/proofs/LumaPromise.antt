@@ -11,7 +11,7 @@ use Rattle.laws.proofs.Sums.{sum-same}
 use Rattle.laws.proofs.Tests.{not-both}
 use Rattle.intra_nxn.specs.IntraNxN.{predNxN, pred4x4L, pred8x8L, filtered}
 use Rattle.intra_nxn.specs.LumaPromise.{Between, LumaPromise}
-use Rattle.samples.specs.Near.{Near, mean, dc}
+use Rattle.basics.specs.Near.{Near, mean, dc}
 use Rattle.intra_nxn.proofs.Related.{Open, Through, related, related-filtered}
 
 -- ---- equality

@@ -12,7 +12,7 @@ use borrow.Author.Tests.{ltb-true, ltb-false, leb-true, leb-false, eqb-true, eqb
 use Rattle.laws.proofs.Blocks.{Block, block-none, block-at, block-more}
 use Rattle.laws.proofs.Tests.{choose, and-both, and-some}
 use Rattle.intra_nxn.specs.IntraNxN.{mean2, mean3, downLeft, downRight, verticalRight, horizontalDown, verticalLeft, horizontalUp, predNxN}
-use Rattle.samples.specs.Near.{Near}
+use Rattle.basics.specs.Near.{Near}
 use Rattle.intra_nxn.specs.inner.Run.{Run, Means, PlaceOf}
 
 -- the means do not mind the order

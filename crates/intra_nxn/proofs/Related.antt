@@ -9,8 +9,8 @@ use lib.Dec.{eqb, ltb, leb}
 use borrow.Author.Tests.{ltb-true, leb-true, eqb-true, eqb-false, ne-eqb}
 use Rattle.laws.proofs.Tests.{choose-both, and-left, and-right, and-some, not-both}
 use Rattle.intra_nxn.specs.IntraNxN.{mean2, mean3, downLeft, downRight, verticalRight, horizontalDown, verticalLeft, horizontalUp, predNxN, filtered, filteredSide, filteredCorner}
-use Rattle.samples.specs.Marks.{permittedNxN}
-use Rattle.samples.specs.Near.{Near, dc}
+use Rattle.basics.specs.Marks.{permittedNxN}
+use Rattle.basics.specs.Near.{Near, dc}
 use Rattle.intra_nxn.proofs.Places.{turn}
 
 -- what the marks let through is related

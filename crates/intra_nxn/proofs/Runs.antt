@@ -7,8 +7,8 @@ use native.Mathlib.Decide.{decLt}
 use lib.ListN.{getD, length, set, length-set}
 use lib.Seq.{getD-set-same, getD-set-other}
 use borrow.Author.Count.{below-more}
-use Rattle.samples.specs.Near.{Near, near}
-use Rattle.samples.proofs.Near.{near-above, near-left}
+use Rattle.basics.specs.Near.{Near, near}
+use Rattle.basics.proofs.Near.{near-above, near-left}
 use Rattle.intra_nxn.specs.inner.Run.{Run, Means, meanRound, meanFrom}
 
 -- ---- the run under way: k samples left, and k of either half above

@@ -17,7 +17,7 @@ use Rattle.laws.proofs.Ontos.{onto-at, onto-long, onto-all}
 use Rattle.laws.proofs.Tables.{length-table}
 use Rattle.laws.proofs.Tests.{choose}
 use Rattle.intra_nxn.specs.IntraNxN.{downLeft, downRight, verticalRight, horizontalDown, verticalLeft, horizontalUp}
-use Rattle.samples.specs.Near.{Near}
+use Rattle.basics.specs.Near.{Near}
 use Rattle.intra_nxn.specs.inner.Run.{Run, Means, Line, slid, meanRound, meanFrom, meanIn, pairs}
 use Rattle.intra_nxn.proofs.Places.{at-downLeft, at-downRight, at-verticalRight, at-horizontalDown, at-verticalLeft, at-horizontalUp}
 use Rattle.intra_nxn.proofs.Runs.{Filling, run-kept, means-there}

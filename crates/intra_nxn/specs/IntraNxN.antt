@@ -3,7 +3,7 @@
 use mathlib.Core.Bool.{Bool, true, false, cond, _&&_}
 use Prim.Native.Nat.{ℕ, _+_, _-_, _*_, _/_, _%_}
 use lib.Dec.{eqb, ltb, leb}
-use Rattle.samples.specs.Near.{Near, vertical, horizontal, dc}
+use Rattle.basics.specs.Near.{Near, vertical, horizontal, dc}
 
 -- the two rounded means that the directional modes take
 abbrev pub mean2 : ℕ → ℕ → ℕ

@@ -2,8 +2,8 @@
 use mathlib.Core.Path.{_≡_}
 use mathlib.Core.Bool.{Bool, true, false, _||_}
 use Prim.Native.Nat.{ℕ, _*_, _≤_, _<_}
-use Rattle.samples.specs.Marks.{permittedNxN}
-use Rattle.samples.specs.Near.{Near, Agree}
+use Rattle.basics.specs.Marks.{permittedNxN}
+use Rattle.basics.specs.Near.{Near, Agree}
 
 pub record Between (lo hi v : ℕ) : Type 0 where
   pub low : lo ≤ v

@@ -2,7 +2,7 @@
 ghost use mathlib.Core.Path.{_≡_};
 ghost use mathlib.Core.Bool.{cond};
 ghost use lib.ListN.{getD};
-ghost use Rattle.samples.specs.Near.{Near};
+ghost use Rattle.basics.specs.Near.{Near};
 ghost use Rattle.intra_nxn.specs.IntraNxN.{mean3, filtered};
 ghost use Rattle.intra_nxn.specs.inner.Run.{Run, Filtered};
 use super::run::mean3;

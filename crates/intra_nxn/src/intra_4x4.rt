@@ -5,18 +5,18 @@ ghost use Prim.Native.Nat.{_≤_, _<_};
 ghost use lib.ListN.{length, replicate};
 ghost use Rattle.laws.specs.Answer.{written};
 ghost use Rattle.laws.specs.Table.{blockOf};
-ghost use Rattle.samples.specs.Marks.{permittedNxN, modeAnswer, predAnswer};
-ghost use Rattle.samples.specs.Near.{Near, near};
+ghost use Rattle.basics.specs.Marks.{permittedNxN, modeAnswer, predAnswer};
+ghost use Rattle.basics.specs.Near.{Near, near};
 ghost use Rattle.intra_nxn.specs.IntraNxN.{predNxN, pred4x4L};
 ghost use Rattle.intra_nxn.specs.inner.Run.{Run, Means, PlaceOf};
 use super::run::dc_of;
 use super::run::mean2;
 use super::run::mean3;
 use super::run::run_of;
-use samples::line::fill;
-use samples::marks::lists_answer;
-use samples::marks::mode_answer;
-use samples::marks::permits_nxn;
+use basics::fill::fill;
+use basics::marks::lists_answer;
+use basics::marks::mode_answer;
+use basics::marks::permits_nxn;
 
 // The answer of a call and its block in raster order, zeros where the call is refused.
 pub struct Pred4x4 {

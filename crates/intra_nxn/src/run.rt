@@ -2,11 +2,11 @@
 ghost use mathlib.Core.Path.{_≡_};
 ghost use Prim.Native.Nat.{_*_, _≤_};
 ghost use lib.ListN.{length};
-ghost use Rattle.samples.specs.Near.{Near, near, dc};
+ghost use Rattle.basics.specs.Near.{Near, near, dc};
 ghost use Rattle.intra_nxn.specs.IntraNxN.{mean2, mean3};
 ghost use Rattle.intra_nxn.specs.inner.Run.{Run};
-use samples::mean::mean_of;
-use samples::mean::wide;
+use basics::mean::mean_of;
+use basics::mean::wide;
 
 // The run of a block's neighbours.
 pub(crate) fn run_of(n: usize, top: &[u8], left: &[u8], corner: u8) -> [u8; 81]

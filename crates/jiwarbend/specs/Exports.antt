@@ -4,8 +4,8 @@ use mathlib.Core.List.{List}
 use Prim.Native.Nat.{ℕ}
 use lib.Dec.{eqb}
 use lib.ListN.{length}
-use Rattle.residual.specs.declared.nnz.Neighbor.{Neighbor}
-use Rattle.residual.specs.declared.nnz.Neighbor.the-variants.{Absent, Count}
+use Rattle.basics.specs.declared.nnz.Neighbor.{Neighbor}
+use Rattle.basics.specs.declared.nnz.Neighbor.the-variants.{Absent, Count}
 
 -- a list has the length that a call asks for
 infix 80 _has_

@@ -7,8 +7,8 @@ ghost use Rattle.laws.specs.Table.{blockOf};
 ghost use Rattle.samples.specs.Intra16x16.{predL};
 ghost use Rattle.samples.specs.IntraChroma.{chromaDc, predC};
 ghost use Rattle.intra_nxn.specs.IntraNxN.{pred4x4L, pred8x8L};
-ghost use Rattle.samples.specs.Marks.{permittedNxN, permitted16x16, permittedChroma, predAnswer};
-ghost use Rattle.samples.specs.Near.{near, dc};
+ghost use Rattle.basics.specs.Marks.{permittedNxN, permitted16x16, permittedChroma, predAnswer};
+ghost use Rattle.basics.specs.Near.{near, dc};
 ghost use Rattle.jiwarbend.specs.Exports.{_has_};
 
 #[no_mangle]

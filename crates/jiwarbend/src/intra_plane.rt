@@ -10,7 +10,7 @@ ghost use Rattle.laws.specs.Table.{blockOf};
 ghost use Rattle.samples.specs.Intra16x16.{predL};
 ghost use Rattle.samples.specs.IntraChroma.{predC};
 ghost use Rattle.samples.specs.IntraPlane.{planeAnswer};
-ghost use Rattle.samples.specs.Near.{nearIn};
+ghost use Rattle.basics.specs.Near.{nearIn};
 
 #[no_mangle]
 pub extern "C" fn jiwarbend_i16x16_luma_pred(

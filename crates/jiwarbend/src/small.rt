@@ -3,35 +3,35 @@ ghost use mathlib.Core.Path.{_≡_};
 ghost use mathlib.Core.List.{[], _∷_};
 ghost use lib.IntN.{pos};
 ghost use Rattle.laws.specs.Answer.{_unless_, answer, written};
-ghost use Rattle.residual.specs.Clip.{Clip1};
-ghost use Rattle.samples.specs.Marks.{modeSet, permittedNxN, permitted16x16, permittedChroma};
-ghost use Rattle.residual.specs.Nnz.{nC, inRaster};
-ghost use Rattle.residual.specs.Qp.{QPc};
+ghost use Rattle.basics.specs.Clip.{Clip1};
+ghost use Rattle.basics.specs.Marks.{modeSet, permittedNxN, permitted16x16, permittedChroma};
+ghost use Rattle.basics.specs.Nnz.{nC, inRaster};
+ghost use Rattle.basics.specs.Qp.{QPc};
 ghost use Rattle.jiwarbend.specs.Exports.{_has_, neighbor};
 
 #[no_mangle]
 pub extern "C" fn jiwarbend_clip_u8(v: i32) -> u8
     ensures { λ r. ⌜ r ≡ Clip1 v ⌝ }
 {
-    residual::clip::clip_u8(v)
+    basics::clip::clip_u8(v)
 }
 
 #[no_mangle]
 pub extern "C" fn jiwarbend_chroma_qp(qp: u8) -> u8
     ensures { λ r. ⌜ r ≡ QPc qp ⌝ }
 {
-    let c = residual::qp::chroma_qp(residual::qp::LumaQp(qp));
+    let c = basics::qp::chroma_qp(basics::qp::LumaQp(qp));
     c.0
 }
 
 // A number of coefficients where there is such a block.
-fn neighbor_of(there: bool, n: u8) -> residual::nnz::Neighbor
+fn neighbor_of(there: bool, n: u8) -> basics::nnz::Neighbor
     ensures { λ r. ⌜ r ≡ neighbor «there» n ⌝ }
 {
     if there {
-        return residual::nnz::Neighbor::Count(n);
+        return basics::nnz::Neighbor::Count(n);
     }
-    residual::nnz::Neighbor::Absent
+    basics::nnz::Neighbor::Absent
 }
 
 #[no_mangle]
@@ -40,7 +40,7 @@ pub extern "C" fn jiwarbend_nc_from_neighbors(has_a: bool, a: u8, has_b: bool, b
 {
     let left = neighbor_of(has_a, a);
     let above = neighbor_of(has_b, b);
-    residual::nnz::nc_from_neighbors(left, above)
+    basics::nnz::nc_from_neighbors(left, above)
 }
 
 #[no_mangle]
@@ -55,7 +55,7 @@ pub extern "C" fn jiwarbend_nnz_raster_from_z(n: &[u8], out: &mut [u8]) -> u32
         return 2;
     }
     let z = crate::lists::bytes24(n);
-    let raster = residual::nnz::nnz_raster_from_z(&z);
+    let raster = basics::nnz::nnz_raster_from_z(&z);
     crate::lists::put(out, &raster);
     0
 }
@@ -68,7 +68,7 @@ pub extern "C" fn jiwarbend_permitted_4x4(
 ) -> u16
     ensures { λ r. ⌜ r ≡ modeSet 9 (permittedNxN «avail_top» «avail_left» «avail_corner») ⌝ }
 {
-    samples::marks::permitted_4x4(avail_top, avail_left, avail_corner)
+    basics::marks::permitted_4x4(avail_top, avail_left, avail_corner)
 }
 
 #[no_mangle]
@@ -79,7 +79,7 @@ pub extern "C" fn jiwarbend_permitted_8x8(
 ) -> u16
     ensures { λ r. ⌜ r ≡ modeSet 9 (permittedNxN «avail_top» «avail_left» «avail_corner») ⌝ }
 {
-    samples::marks::permitted_8x8(avail_top, avail_left, avail_corner)
+    basics::marks::permitted_8x8(avail_top, avail_left, avail_corner)
 }
 
 #[no_mangle]
@@ -90,7 +90,7 @@ pub extern "C" fn jiwarbend_permitted_16x16(
 ) -> u16
     ensures { λ r. ⌜ r ≡ modeSet 4 (permitted16x16 «avail_top» «avail_left» «avail_corner») ⌝ }
 {
-    samples::marks::permitted_16x16(avail_top, avail_left, avail_corner)
+    basics::marks::permitted_16x16(avail_top, avail_left, avail_corner)
 }
 
 #[no_mangle]
@@ -101,5 +101,5 @@ pub extern "C" fn jiwarbend_permitted_chroma(
 ) -> u16
     ensures { λ r. ⌜ r ≡ modeSet 4 (permittedChroma «avail_top» «avail_left» «avail_corner») ⌝ }
 {
-    samples::marks::permitted_chroma(avail_top, avail_left, avail_corner)
+    basics::marks::permitted_chroma(avail_top, avail_left, avail_corner)
 }

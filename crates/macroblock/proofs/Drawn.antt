@@ -9,8 +9,8 @@ use lib.IntN.{ℤ, pos, _+ℤ_}
 use lib.ListN.{getD}
 use Rattle.laws.specs.Table.{blockOf}
 use Rattle.laws.proofs.Tables.{getD-table}
-use Rattle.residual.specs.Clip.{Clip1}
-use Rattle.samples.specs.Near.{Near}
+use Rattle.basics.specs.Clip.{Clip1}
+use Rattle.basics.specs.Near.{Near}
 use Rattle.maps.specs.Neighbours.{Side}
 use Rattle.macroblock.specs.declared.cut.Place.{Place}
 use Rattle.macroblock.specs.declared.cut.Sides.{Sides}

@@ -12,7 +12,7 @@ use Rattle.laws.specs.Answer.{answer}
 use Rattle.laws.specs.Table.{allBelow}
 use Rattle.laws.proofs.Answers.{passes, answer-later, answer-earlier}
 use Rattle.laws.proofs.Tests.{and-left, and-right, all-at}
-use Rattle.samples.specs.Marks.{permittedChroma, modeAnswer}
+use Rattle.basics.specs.Marks.{permittedChroma, modeAnswer}
 use Rattle.maps.specs.Neighbours.{Side}
 use Rattle.maps.specs.Neighbours.Side.{A, B, D}
 use Rattle.macroblock.specs.declared.Record.{Record}

@@ -9,7 +9,7 @@ use borrow.Author.Tests.{eqb-true, eqb-false, leb-true, leb-false, ltb-true}
 use lib.Arith.{digits-div, digits-mod}
 use lib.Dec.{T, eqb, ltb, leb}
 use Rattle.laws.proofs.Tests.{T-true}
-use Rattle.residual.specs.Nnz.{blkIdx}
+use Rattle.basics.specs.Nnz.{blkIdx}
 use Rattle.maps.specs.Neighbours.{Side, besideX, besideY}
 use Rattle.macroblock.specs.Cut.{scanX, scanY, nextX, nextY, holderAt, heldBy, isThere, squareSides, placeOf}
 use Rattle.maps.specs.Neighbours.Side.{A, B, C, D}

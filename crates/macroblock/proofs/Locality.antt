@@ -18,8 +18,8 @@ use Rattle.laws.proofs.Tests.{T-true}
 use Rattle.order.specs.Order.{Alike}
 use Rattle.order.specs.Parts.{Parts}
 use Rattle.order.proofs.Parts.{parts-writes, parts-reads}
-use Rattle.samples.specs.Near.{near}
-use Rattle.residual.specs.Nnz.{blkIdx}
+use Rattle.basics.specs.Near.{near}
+use Rattle.basics.specs.Nnz.{blkIdx}
 use Rattle.maps.specs.Neighbours.{Side, besideX, besideY}
 use Rattle.macroblock.specs.declared.cut.Place.{Place}
 use Rattle.macroblock.specs.Cut.{Cut, blocks, scanX, scanY, isThere, sidesOf, squareSides, placeOf}

@@ -13,7 +13,7 @@ use Rattle.laws.proofs.Patches.{length-patch, patch-is, patch-here, patch-other
 use Rattle.laws.proofs.Tests.{true-T}
 use Rattle.order.specs.Parts.{Parts}
 use Rattle.order.proofs.Parts.{parts-at, parts-keeps, parts-ok, parts-writes}
-use Rattle.residual.specs.Nnz.{blkIdx}
+use Rattle.basics.specs.Nnz.{blkIdx}
 use Rattle.macroblock.specs.declared.cut.Place.{Place}
 use Rattle.macroblock.specs.Cut.{scanX, scanY, placeOf}
 use Rattle.macroblock.specs.Square.{inBlock, placeAt, putBlock}

@@ -9,7 +9,7 @@ use lib.ListN.{length}
 use Rattle.laws.specs.Answer.{_unless_, answer, written}
 use Rattle.laws.proofs.Answers.{put}
 use Rattle.laws.proofs.Tables.{length-table}
-use Rattle.samples.specs.Marks.{modeAnswer}
+use Rattle.basics.specs.Marks.{modeAnswer}
 use Rattle.macroblock.specs.declared.cut.Place.{Place}
 use Rattle.macroblock.specs.declared.cut.Sides.{Sides}
 use Rattle.macroblock.specs.Square.{aboveOf, leftOf}

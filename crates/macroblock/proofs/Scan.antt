@@ -8,7 +8,7 @@ use native.Mathlib.Omega.{arith}
 use lib.Dec.{T, ltb, eqb, eqb→eq, ltb→lt}
 use Rattle.laws.specs.Table.{allBelow}
 use Rattle.laws.proofs.Tests.{below, both-left, both-right}
-use Rattle.residual.specs.Nnz.{blkIdx}
+use Rattle.basics.specs.Nnz.{blkIdx}
 use Rattle.macroblock.specs.Cut.{scanX, scanY}
 use Rattle.macroblock.specs.inner.Blocks.{Scan}
 

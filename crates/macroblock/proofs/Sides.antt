@@ -7,7 +7,7 @@ use native.Mathlib.Omega.{arith}
 use borrow.Author.Tests.{eqb-false, leb-true, le-leb, lt-ltb, ne-eqb}
 use lib.Dec.{eqb, ltb, leb}
 use Rattle.laws.proofs.Tests.{and-left}
-use Rattle.residual.specs.Nnz.{blkIdx}
+use Rattle.basics.specs.Nnz.{blkIdx}
 use Rattle.maps.specs.Neighbours.{Side}
 use Rattle.macroblock.specs.declared.cut.Place.{Place}
 use Rattle.macroblock.specs.declared.cut.Sides.{Sides}

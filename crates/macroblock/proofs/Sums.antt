@@ -16,8 +16,8 @@ use Rattle.laws.specs.Answer.{_unless_, answer, written}
 use Rattle.laws.specs.Range.{at}
 use Rattle.laws.proofs.Answers.{put}
 use Rattle.laws.proofs.Stretches.{part-at}
-use Rattle.residual.specs.Clip.{Clip1}
-use Rattle.residual.specs.Nnz.{blkIdx}
+use Rattle.basics.specs.Clip.{Clip1}
+use Rattle.basics.specs.Nnz.{blkIdx}
 use Rattle.residual.specs.Reconstruct.{putSquare, sumIn, intoRoom}
 use Rattle.residual.proofs.Rooms.{room-of}
 use Rattle.macroblock.specs.declared.cut.Place.{Place}

@@ -7,13 +7,13 @@ use lib.IntN.{ℤ, pos, _+ℤ_}
 use lib.ListN.{getD}
 use Rattle.laws.specs.Range.{at}
 use Rattle.laws.specs.Table.{table}
-use Rattle.residual.specs.Clip.{Clip1}
+use Rattle.basics.specs.Clip.{Clip1}
 use Rattle.samples.specs.Intra16x16.{predL}
 use Rattle.samples.specs.IntraChroma.{predC}
 use Rattle.intra_nxn.specs.IntraNxN.{pred4x4L, pred8x8L}
 use Rattle.residual.specs.Inverse.{inverse4x4}
-use Rattle.samples.specs.Near.{Near}
-use Rattle.residual.specs.Nnz.{blkIdx}
+use Rattle.basics.specs.Near.{Near}
+use Rattle.basics.specs.Nnz.{blkIdx}
 use Rattle.maps.specs.Neighbours.{Side}
 use Rattle.macroblock.specs.declared.Record.{Record}
 use Rattle.macroblock.specs.declared.cut.Sides.{Sides}

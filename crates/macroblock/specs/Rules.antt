@@ -6,7 +6,7 @@ use lib.Dec.{eqb, ltb, leb}
 use lib.ListN.{getD, length}
 use Rattle.laws.specs.Answer.{Check, _unless_, answer}
 use Rattle.laws.specs.Table.{allBelow}
-use Rattle.samples.specs.Marks.{permittedNxN, permitted16x16, permittedChroma}
+use Rattle.basics.specs.Marks.{permittedNxN, permitted16x16, permittedChroma}
 use Rattle.residual.specs.Numbers.{allInRange}
 use Rattle.maps.specs.Neighbours.{Side}
 use Rattle.macroblock.specs.declared.Record.{Record}

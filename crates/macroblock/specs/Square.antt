@@ -8,7 +8,7 @@ use lib.ListN.{getD}
 use Rattle.laws.specs.Patch.{patch}
 use Rattle.laws.specs.Steps.{upTo}
 use Rattle.laws.specs.Table.{table}
-use Rattle.samples.specs.Near.{Near, near}
+use Rattle.basics.specs.Near.{Near, near}
 use Rattle.maps.specs.Neighbours.{Side}
 use Rattle.macroblock.specs.declared.cut.Place.{Place}
 use Rattle.macroblock.specs.declared.cut.Sides.{Sides}

@@ -3,7 +3,7 @@ ghost use mathlib.Core.Path.{_≡_};
 ghost use mathlib.Core.Bool.{cond, _&&_};
 ghost use Prim.Native.Nat.{_+_, _*_, _-_, _≤_, _<_};
 ghost use lib.Dec.{eqb, ltb, leb};
-ghost use Rattle.residual.specs.Nnz.{blkIdx};
+ghost use Rattle.basics.specs.Nnz.{blkIdx};
 ghost use Rattle.maps.specs.Neighbours.{marksOf};
 ghost use Rattle.macroblock.specs.Cut.{scanX, scanY, sidesOf, squareSides, placeOf};
 ghost use Rattle.macroblock.specs.Kinds.{cutFor};

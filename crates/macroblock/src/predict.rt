@@ -5,7 +5,7 @@ ghost use Rattle.laws.specs.Table.{blockOf};
 ghost use Rattle.samples.specs.Intra16x16.{predL};
 ghost use Rattle.samples.specs.IntraChroma.{predC};
 ghost use Rattle.intra_nxn.specs.IntraNxN.{pred4x4L, pred8x8L};
-ghost use Rattle.samples.specs.Marks.{permittedNxN, permitted16x16, permittedChroma, modeAnswer};
+ghost use Rattle.basics.specs.Marks.{permittedNxN, permitted16x16, permittedChroma, modeAnswer};
 ghost use Rattle.macroblock.specs.Square.{nearBlock};
 ghost use Rattle.macroblock.specs.inner.Blocks.{StandsIn};
 use super::beside::read_beside;

@@ -4,7 +4,7 @@ ghost use Prim.Native.Nat.{_+_, _*_, _<_};
 ghost use lib.IntN.{pos, _+ℤ_};
 ghost use lib.ListN.{getD, length};
 ghost use Rattle.laws.specs.Range.{at};
-ghost use Rattle.residual.specs.Clip.{Clip1};
+ghost use Rattle.basics.specs.Clip.{Clip1};
 ghost use Rattle.macroblock.specs.Square.{putBlock};
 ghost use Rattle.macroblock.specs.inner.Blocks.{BlockIn, PieceIn, PiecesIn, inPiece, inPieces};
 use super::cut::Place;

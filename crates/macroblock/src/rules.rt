@@ -153,14 +153,14 @@ fn is_permitted(marks: Marks, kind: u8, modes: &[u8], chroma_mode: u8) -> bool
         }
         k += 1;
     }
-    samples::marks::permits_chroma(chroma_mode, marks.b, marks.a, marks.d)
+    basics::marks::permits_chroma(chroma_mode, marks.b, marks.a, marks.d)
 }
 
 fn permits(kind: u8, sides: Sides, mode: u8) -> bool
     ensures { λ r. ⌜ r ≡ permittedFor kind sides mode ⌝ }
 {
     if kind < 2 {
-        return samples::marks::permits_nxn(mode, sides.above, sides.left, sides.corner);
+        return basics::marks::permits_nxn(mode, sides.above, sides.left, sides.corner);
     }
-    samples::marks::permits_16x16(mode, sides.above, sides.left, sides.corner)
+    basics::marks::permits_16x16(mode, sides.above, sides.left, sides.corner)
 }

@@ -12,8 +12,8 @@ use Rattle.laws.specs.Table.{table, blockOf}
 use Rattle.laws.proofs.Ints.{within-more}
 use Rattle.laws.proofs.Tables.{getD-table, length-table, table-same}
 use Rattle.laws.proofs.Tests.{and-of}
+use Rattle.basics.specs.Clip.{Clip1}
 use Rattle.residual.specs.Agreement.{Agreement, lone, into, square}
-use Rattle.residual.specs.Clip.{Clip1}
 use Rattle.residual.specs.Inverse.{oneDimensional, rowOf, columnOf, rounded, inverse4x4}
 use Rattle.residual.specs.Numbers.{inRange, allInRange}
 use Rattle.residual.specs.Reconstruct.{sums, putSquare, sumIn, intoRoom}

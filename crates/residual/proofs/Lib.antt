@@ -1,6 +1,5 @@
 -- The laws about this crate's definitions.
 pub mod Agreement
-pub mod Clipped
 pub mod InRange
 pub mod Rooms
 pub mod Squares

@@ -9,7 +9,7 @@ use Rattle.laws.specs.Answer.{_unless_, answer}
 use Rattle.laws.specs.Patch.{patch}
 use Rattle.laws.specs.Range.{at}
 use Rattle.laws.specs.Table.{table}
-use Rattle.residual.specs.Clip.{Clip1}
+use Rattle.basics.specs.Clip.{Clip1}
 use Rattle.residual.specs.Numbers.{allInRange}
 
 -- the first n samples of a block, from its prediction and its residual in raster order

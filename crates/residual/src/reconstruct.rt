@@ -8,18 +8,18 @@ ghost use lib.IntN.{ℤ, pos, _+ℤ_};
 ghost use lib.ListN.{length, getD, replicate};
 ghost use Rattle.laws.specs.Answer.{_unless_, answer, written};
 ghost use Rattle.laws.specs.Range.{AllWithin, at};
-ghost use Rattle.residual.specs.Clip.{Clip1};
+ghost use Rattle.basics.specs.Clip.{Clip1};
 ghost use Rattle.residual.specs.Inverse.{inverse4x4};
 ghost use Rattle.residual.specs.Numbers.{inRange, allInRange};
 ghost use Rattle.residual.specs.Reconstruct.{sums, putSquare, sumIn, rowsIn, intoRoom, intoAnswer, sumsAnswer};
 ghost use Rattle.residual.specs.inner.Sums.{summed};
-use super::clip::clip_u8;
 use super::inverse::inverse_blocks;
 use super::inverse::inverse_core;
 use super::inverse::widen;
 use super::numbers::all_in_range;
 use super::numbers::narrow;
 use super::numbers::narrow_all;
+use basics::clip::clip_u8;
 
 pub struct Block4x4 {
     pub answer: u32,

@@ -13,14 +13,14 @@ use Rattle.laws.specs.Table.{blockOf, onto, allBelow}
 use Rattle.laws.proofs.Blocks.{block-same}
 use Rattle.laws.proofs.Ontos.{onto-at}
 use Rattle.laws.proofs.Tests.{T-true, and-both, below}
+use Rattle.basics.specs.Marks.{permitted16x16, permittedChroma}
+use Rattle.basics.specs.Near.{Near, near, nearIn, vertical, Agree}
+use Rattle.basics.proofs.Near.{near-above, near-left}
 use Rattle.samples.specs.Intra16x16.{predL}
 use Rattle.samples.specs.IntraChroma.{predC}
 use Rattle.samples.specs.IntraPlane.{roomRound}
-use Rattle.samples.specs.Marks.{permitted16x16, permittedChroma}
-use Rattle.samples.specs.Near.{Near, near, nearIn, vertical, Agree}
 use Rattle.samples.specs.PlaneMode.{plane}
 use Rattle.samples.specs.inner.Surroundings.{Surroundings}
-use Rattle.samples.proofs.Near.{near-above, near-left}
 use Rattle.samples.proofs.Whole.{Drawn, drawn}
 use Rattle.samples.proofs.WholePromise.{whole-promise}
 

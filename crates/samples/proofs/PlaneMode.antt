@@ -15,8 +15,8 @@ use Rattle.laws.specs.Table.{sumZ, onto}
 use Rattle.laws.proofs.Ints.{ints, within-fits, within-back, back}
 use Rattle.laws.proofs.Ontos.{onto-at}
 use Rattle.laws.proofs.Sums.{sumZ-same}
-use Rattle.residual.specs.Clip.{Clip1}
-use Rattle.samples.specs.Near.{Near, near}
+use Rattle.basics.specs.Clip.{Clip1}
+use Rattle.basics.specs.Near.{Near, near}
 use Rattle.samples.specs.PlaneMode.{slope, gradient, ramp, plane}
 use Rattle.samples.specs.inner.Line.{line}
 use Rattle.samples.specs.inner.Plane.{Sloped}

@@ -13,14 +13,14 @@ use Rattle.laws.specs.Table.{table, blockOf, sumOf, onto}
 use Rattle.laws.proofs.Ontos.{onto-none, onto-same}
 use Rattle.laws.proofs.Sums.{sum-same}
 use Rattle.laws.proofs.Tables.{getD-table}
+use Rattle.basics.specs.Near.{near, vertical, horizontal, mean, dc}
+use Rattle.basics.proofs.Dc.{SumOf, mean-is, dc-is}
+use Rattle.basics.proofs.Lines.{fill-part}
+use Rattle.basics.proofs.Near.{near-above, near-left}
 use Rattle.samples.specs.Intra16x16.{predL}
 use Rattle.samples.specs.IntraChroma.{regionDc, chromaDc, predC}
-use Rattle.samples.specs.Near.{near, vertical, horizontal, mean, dc}
 use Rattle.samples.specs.PlaneMode.{ramp, plane}
 use Rattle.samples.specs.inner.Plane.{Sloped}
-use Rattle.samples.proofs.Dc.{SumOf, mean-is, dc-is}
-use Rattle.samples.proofs.Lines.{fill-part}
-use Rattle.samples.proofs.Near.{near-above, near-left}
 use Rattle.samples.proofs.PlaneMode.{plane-is}
 
 module _ (n : ℕ) (old : List ℕ) (pred : ℕ → ℕ → ℕ) where

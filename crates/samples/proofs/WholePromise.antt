@@ -7,10 +7,10 @@ use lib.Dec.{eqb, ltb}
 use Rattle.laws.specs.Table.{sumOf}
 use Rattle.laws.proofs.Sums.{sum-same}
 use Rattle.laws.proofs.Tests.{not-both, and-left, and-both, cond-same}
+use Rattle.basics.specs.Marks.{permitted16x16, permittedChroma}
+use Rattle.basics.specs.Near.{Near, mean, dc, Agree}
 use Rattle.samples.specs.Intra16x16.{predL}
 use Rattle.samples.specs.IntraChroma.{regionDc, predC}
-use Rattle.samples.specs.Marks.{permitted16x16, permittedChroma}
-use Rattle.samples.specs.Near.{Near, mean, dc, Agree}
 use Rattle.samples.specs.PlaneMode.{plane}
 use Rattle.samples.specs.WholePromise.{WholePromise}
 use Rattle.samples.proofs.PlaneMode.{plane-same}

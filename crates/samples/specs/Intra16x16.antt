@@ -2,8 +2,8 @@
 use mathlib.Core.Bool.{Bool, cond}
 use Prim.Native.Nat.{ℕ}
 use lib.Dec.{eqb}
+use Rattle.basics.specs.Near.{Near, vertical, horizontal, dc}
 use Rattle.samples.specs.PlaneMode.{plane}
-use Rattle.samples.specs.Near.{Near, vertical, horizontal, dc}
 
 -- predL[ x, y ] in each mode of Table 8-4: 0 vertical, 1 horizontal, 2 DC, 3 plane
 unfoldable pub predL : ℕ → Bool → Bool → Near → ℕ → ℕ → ℕ

@@ -3,8 +3,8 @@ use mathlib.Core.Bool.{Bool, cond, not, _&&_}
 use Prim.Native.Nat.{ℕ, _+_, _*_, _/_}
 use lib.Dec.{eqb, ltb}
 use Rattle.laws.specs.Table.{sumOf}
+use Rattle.basics.specs.Near.{Near, vertical, horizontal, mean}
 use Rattle.samples.specs.PlaneMode.{plane}
-use Rattle.samples.specs.Near.{Near, vertical, horizontal, mean}
 
 -- 8.3.4.1: the 4x4 region whose first sample is in column xO and row yO. Region (4, 0) takes left only where above is absent, and
 -- region (0, 4) above only where left is absent

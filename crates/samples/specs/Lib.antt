@@ -2,8 +2,6 @@
 pub mod Intra16x16
 pub mod IntraChroma
 pub mod IntraPlane
-pub mod Marks
-pub mod Near
 pub mod PlaneMode
 pub mod WholePromise
 pub mod inner

@@ -4,8 +4,8 @@ use Prim.Native.Nat.{ℕ, _+_, _-_, _*_}
 use lib.IntN.{ℤ, pos, _+ℤ_, _-ℤ_, _*ℤ_}
 use lib.Signed.{shrZ}
 use Rattle.laws.specs.Table.{sumZ}
-use Rattle.residual.specs.Clip.{Clip1}
-use Rattle.samples.specs.Near.{Near}
+use Rattle.basics.specs.Clip.{Clip1}
+use Rattle.basics.specs.Near.{Near}
 
 -- H and V: the sum over i = 0..m - 1 of ( i + 1 ) * ( s[ m + i ] - s[ m - 2 - i ] ), where the line s begins at -1
 unfoldable pub slope : ℕ → (ℕ → ℕ) → ℤ

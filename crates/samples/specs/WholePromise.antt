@@ -2,10 +2,10 @@
 use mathlib.Core.Path.{_≡_}
 use mathlib.Core.Bool.{Bool, true}
 use Prim.Native.Nat.{ℕ, _<_}
+use Rattle.basics.specs.Marks.{permitted16x16, permittedChroma}
+use Rattle.basics.specs.Near.{Near, Agree}
 use Rattle.samples.specs.Intra16x16.{predL}
 use Rattle.samples.specs.IntraChroma.{predC}
-use Rattle.samples.specs.Marks.{permitted16x16, permittedChroma}
-use Rattle.samples.specs.Near.{Near, Agree}
 
 -- a permitted mode reads no sample of an absent side: neighbourhoods that agree on the sides that are there predict the same
 pub record WholePromise : Type 0 where

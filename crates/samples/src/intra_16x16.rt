@@ -5,18 +5,18 @@ ghost use mathlib.Core.List.{_++_};
 ghost use lib.ListN.{length, drop, replicate};
 ghost use Rattle.laws.specs.Answer.{written};
 ghost use Rattle.laws.specs.Table.{blockOf};
+ghost use Rattle.basics.specs.Marks.{permitted16x16, modeAnswer, predAnswer};
+ghost use Rattle.basics.specs.Near.{near, dc};
 ghost use Rattle.samples.specs.Intra16x16.{predL};
-ghost use Rattle.samples.specs.Marks.{permitted16x16, modeAnswer, predAnswer};
-ghost use Rattle.samples.specs.Near.{near, dc};
 use super::line::across;
 use super::line::down;
-use super::line::fill;
 use super::line::sum_of;
-use super::marks::lists_answer;
-use super::marks::mode_answer;
-use super::marks::permits_16x16;
-use super::mean::mean_of;
 use super::plane_mode::plane_over;
+use basics::fill::fill;
+use basics::marks::lists_answer;
+use basics::marks::mode_answer;
+use basics::marks::permits_16x16;
+use basics::mean::mean_of;
 
 // The answer, and the block in raster order, zeros where the call is refused.
 pub struct Pred16x16 {

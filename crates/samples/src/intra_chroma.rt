@@ -6,18 +6,18 @@ ghost use Prim.Native.Nat.{ℕ, _+_, _*_, _/_, _%_, _≤_};
 ghost use lib.ListN.{length, getD, drop, replicate};
 ghost use Rattle.laws.specs.Answer.{written};
 ghost use Rattle.laws.specs.Table.{table, blockOf, onto};
+ghost use Rattle.basics.specs.Marks.{permittedChroma, modeAnswer, predAnswer};
+ghost use Rattle.basics.specs.Near.{near};
 ghost use Rattle.samples.specs.IntraChroma.{regionDc, chromaDc, predC};
-ghost use Rattle.samples.specs.Marks.{permittedChroma, modeAnswer, predAnswer};
-ghost use Rattle.samples.specs.Near.{near};
 use super::line::across;
 use super::line::down;
-use super::line::fill;
 use super::line::sum_of;
-use super::marks::lists_answer;
-use super::marks::mode_answer;
-use super::marks::permits_chroma;
-use super::mean::mean_of;
 use super::plane_mode::plane_over;
+use basics::fill::fill;
+use basics::marks::lists_answer;
+use basics::marks::mode_answer;
+use basics::marks::permits_chroma;
+use basics::mean::mean_of;
 
 // The answer, and the block in raster order, zeros where the call is refused.
 pub struct PredChroma {

@@ -4,7 +4,8 @@ ghost use Prim.Native.Nat.{ℕ, _+_, _*_, _/_, _%_, _≤_, _<_};
 ghost use lib.ListN.{length, getD, replicate};
 ghost use Rattle.laws.specs.Table.{sumOf, onto};
 ghost use Rattle.samples.specs.inner.Line.{line};
-use super::mean::wide;
+use basics::fill::fill;
+use basics::mean::wide;
 
 // The corner and the n samples of a side.
 pub(crate) fn line_of(n: usize, corner: u8, side: &[u8]) -> [u8; 17]
@@ -41,15 +42,6 @@ pub(crate) fn sum_of(side: &[u8], from: usize, n: usize) -> u32
         s += wide(side[from + i]);
     }
     s
-}
-
-// The value v over every byte.
-pub fn fill(v: u8, out: &mut [u8])
-    ensures { λ _. ⌜ now (out .exit) ≡ replicate (length (now (out .entry))) v ⌝ }
-{
-    for k in 0..out.len() {
-        out[k] = v;
-    }
 }
 
 // The first n samples of a side over the first n bytes.

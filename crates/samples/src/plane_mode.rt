@@ -6,11 +6,11 @@ ghost use lib.IntN.{pos, _+ℤ_, _-ℤ_, _*ℤ_};
 ghost use lib.ListN.{length, getD, drop};
 ghost use Rattle.laws.specs.Range.{Within};
 ghost use Rattle.laws.specs.Table.{blockOf, onto};
-ghost use Rattle.samples.specs.Near.{near};
+ghost use Rattle.basics.specs.Near.{near};
 ghost use Rattle.samples.specs.PlaneMode.{slope, gradient, ramp, plane};
 ghost use Rattle.samples.specs.inner.Plane.{Sloped};
 use super::line::line_of;
-use residual::clip::clip_u8;
+use basics::clip::clip_u8;
 
 // a, b and c of the clauses.
 pub struct Levels {

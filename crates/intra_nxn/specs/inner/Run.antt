@@ -6,7 +6,7 @@ use mathlib.Core.List.{List}
 use Prim.Native.Nat.{ℕ, _+_, _-_, _*_, _/_, _%_, _≤_, _<_}
 use lib.Dec.{eqb, ltb}
 use lib.ListN.{getD, length}
-use Rattle.samples.specs.Near.{Near}
+use Rattle.basics.specs.Near.{Near}
 use Rattle.intra_nxn.specs.IntraNxN.{mean2, mean3}
 
 -- t holds the neighbourhood p of a block of side n: the corner at 63, above to the right of it, left to the left of it, and the last sample of

@@ -6,8 +6,8 @@ use Prim.Native.Nat.{ℕ, zero, suc, _+_, _*_, _-_, _/_, _%_, _<_, _≤_}
 use lib.IntN.{ℤ}
 use lib.ListN.{getD, length, replicate}
 use Rattle.laws.specs.Range.{at}
-use Rattle.samples.specs.Marks.{permittedChroma, modeAnswer}
-use Rattle.residual.specs.Nnz.{blkIdx}
+use Rattle.basics.specs.Marks.{permittedChroma, modeAnswer}
+use Rattle.basics.specs.Nnz.{blkIdx}
 use Rattle.maps.specs.Neighbours.{Side}
 use Rattle.macroblock.specs.Cut.{scanX, scanY, sidesOf, squareSides}
 use Rattle.maps.specs.Neighbours.Side.{A, B, D}

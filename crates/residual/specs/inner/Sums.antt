@@ -6,7 +6,7 @@ use lib.IntN.{ℤ, pos, _+ℤ_}
 use lib.ListN.{getD}
 use Rattle.laws.specs.Patch.{patch}
 use Rattle.laws.specs.Range.{at}
-use Rattle.residual.specs.Clip.{Clip1}
+use Rattle.basics.specs.Clip.{Clip1}
 
 -- a row with its first n bytes put anew: the clipped sums from places k of the residuals and p of the prediction on
 abbrev pub summed : List ℤ → ℕ → List ℕ → ℕ → ℕ → List ℕ → List ℕ

@@ -3,7 +3,7 @@ use mathlib.Core.Path.{_≡_}
 use Prim.Native.Nat.{ℕ, _*_}
 use lib.IntN.{ℤ, pos, _+ℤ_, _*ℤ_}
 use Rattle.laws.specs.Range.{Within}
-use Rattle.samples.specs.Near.{Near}
+use Rattle.basics.specs.Near.{Near}
 use Rattle.samples.specs.PlaneMode.{slope, gradient}
 
 pub record Sloped (m k : ℕ) (p : Near) (a b c : ℤ) : Type 0 where

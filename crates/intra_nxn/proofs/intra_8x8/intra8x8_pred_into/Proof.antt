@@ -4,8 +4,8 @@ use denote.Ref.{now}
 use lib.Dec.{lit≤}
 use lib.ListN.{length}
 use Rattle.laws.proofs.Answers.{refused}
-use Rattle.samples.specs.Marks.{permittedNxN}
-use Rattle.samples.proofs.Modes.{Answered, unanswered, answered}
+use Rattle.basics.specs.Marks.{permittedNxN}
+use Rattle.basics.proofs.Modes.{Answered, unanswered, answered}
 use borrow.Author.Needs.{needs}
 use Rattle.intra_nxn.proofs.intra_8x8.intra8x8_pred_into.Statement.{statement}
 use Rattle.intra_nxn.proofs.intra_8x8.intra8x8_pred_into.Tie as tie

@@ -6,7 +6,7 @@ use lib.ListN.{getD}
 use denote.Ref.{now}
 use Rattle.laws.specs.Table.{sumOf}
 use Rattle.laws.proofs.Sums.{sum-more}
-use Rattle.samples.proofs.Dc.{dc-is}
+use Rattle.basics.proofs.Dc.{dc-is}
 use borrow.Author.Needs.{needs}
 use Rattle.intra_nxn.proofs.run.dc_of.Statement.{statement}
 use Rattle.intra_nxn.proofs.run.dc_of.Tie as tie

@@ -7,7 +7,7 @@ use lib.IntN.{pos}
 use borrow.Author.Needs.{needs}
 use Rattle.laws.specs.Range.{Within}
 use Rattle.laws.proofs.Ints.{back}
-use Rattle.residual.specs.Nnz.{nC}
+use Rattle.basics.specs.Nnz.{nC}
 use Rattle.jiwarbend.specs.Exports.{neighbor}
 use Rattle.jiwarbend.proofs.small.jiwarbend_nc_from_neighbors.Statement.{statement}
 use Rattle.jiwarbend.proofs.small.jiwarbend_nc_from_neighbors.Tie as tie

@@ -3,7 +3,7 @@ use mathlib.Core.Path.{_≡_, refl, sym, subst, _∙_}
 use Prim.Native.Nat.{_+_, _*_}
 use native.Mathlib.Omega.{arith}
 use lib.ListN.{getD, length}
-use Rattle.samples.specs.Marks.{permitted16x16, modeAnswer}
+use Rattle.basics.specs.Marks.{permitted16x16, modeAnswer}
 use Rattle.maps.specs.Neighbours.{marksOf}
 use Rattle.macroblock.specs.Cut.{whole}
 use Rattle.macroblock.specs.Kinds.{predFor, residualL}

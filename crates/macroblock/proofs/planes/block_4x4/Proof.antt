@@ -4,7 +4,7 @@ use mathlib.Core.Path.{_≡_, sym, subst}
 use Prim.Native.Nat.{_+_, _*_}
 use native.Mathlib.Omega.{arith}
 use lib.ListN.{getD, length}
-use Rattle.samples.specs.Marks.{permittedNxN, modeAnswer}
+use Rattle.basics.specs.Marks.{permittedNxN, modeAnswer}
 use Rattle.maps.specs.Neighbours.{marksOf}
 use Rattle.macroblock.specs.Cut.{four}
 use Rattle.macroblock.specs.Kinds.{predFor, residualL}

@@ -5,7 +5,7 @@ use Prim.Native.Nat.{_+_, _*_}
 use native.Mathlib.Omega.{arith}
 use lib.ListN.{getD, length}
 use Rattle.laws.specs.Range.{at}
-use Rattle.samples.specs.Marks.{permittedNxN, modeAnswer}
+use Rattle.basics.specs.Marks.{permittedNxN, modeAnswer}
 use Rattle.maps.specs.Neighbours.{marksOf}
 use Rattle.macroblock.specs.Cut.{eight}
 use Rattle.macroblock.specs.Kinds.{predFor, residualL}

@@ -5,7 +5,7 @@ use native.Mathlib.Omega.{arith}
 use lib.ListN.{length}
 use Rattle.laws.specs.Steps.{upTo}
 use Rattle.samples.specs.IntraChroma.{predC}
-use Rattle.samples.specs.Marks.{permittedChroma, modeAnswer}
+use Rattle.basics.specs.Marks.{permittedChroma, modeAnswer}
 use Rattle.maps.specs.Neighbours.{marksOf}
 use Rattle.macroblock.specs.Cut.{whole}
 use Rattle.macroblock.specs.Kinds.{residualIn}

@@ -3,8 +3,8 @@ use mathlib.Core.Path.{refl}
 use lib.ListN.{replicate}
 use Rattle.laws.specs.Table.{blockOf}
 use Rattle.intra_nxn.specs.IntraNxN.{pred4x4L}
-use Rattle.samples.specs.Marks.{permittedNxN}
-use Rattle.samples.specs.Near.{near}
+use Rattle.basics.specs.Marks.{permittedNxN}
+use Rattle.basics.specs.Near.{near}
 use Rattle.macroblock.proofs.Predicted.{predicted}
 use borrow.Author.Needs.{needs}
 use Rattle.macroblock.proofs.predict.predict_4x4.Statement.{statement}

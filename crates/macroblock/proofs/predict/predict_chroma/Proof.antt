@@ -3,8 +3,8 @@ use mathlib.Core.Path.{refl}
 use lib.ListN.{replicate}
 use Rattle.laws.specs.Table.{blockOf}
 use Rattle.samples.specs.IntraChroma.{predC}
-use Rattle.samples.specs.Marks.{permittedChroma}
-use Rattle.samples.specs.Near.{near}
+use Rattle.basics.specs.Marks.{permittedChroma}
+use Rattle.basics.specs.Near.{near}
 use Rattle.macroblock.proofs.Predicted.{predicted}
 use borrow.Author.Needs.{needs}
 use Rattle.macroblock.proofs.predict.predict_chroma.Statement.{statement}

@@ -8,7 +8,7 @@ use lib.ListN.{getD, length}
 use Rattle.laws.specs.Steps.{upTo}
 use Rattle.laws.proofs.Patches.{length-patch}
 use Rattle.laws.proofs.Steps.{steps-none, steps-more, steps-length}
-use Rattle.residual.specs.Clip.{Clip1}
+use Rattle.basics.specs.Clip.{Clip1}
 use Rattle.macroblock.specs.Cut.{scanX, scanY}
 use Rattle.macroblock.specs.Square.{inBlock, placeAt, putBlock}
 use Rattle.macroblock.specs.inner.Blocks.{BlockIn, inPiece, inPieces}

@@ -5,7 +5,7 @@ use native.Mathlib.Omega.{arith}
 use lib.IntN.{_+ℤ_}
 use Rattle.laws.specs.Range.{at}
 use Rattle.laws.proofs.Tables.{Filled, filled-none, filled-more, filled-all}
-use Rattle.residual.specs.Clip.{Clip1}
+use Rattle.basics.specs.Clip.{Clip1}
 use Rattle.residual.specs.Reconstruct.{sums}
 use borrow.Author.Needs.{needs}
 use Rattle.residual.proofs.reconstruct.add_clipped.Statement.{statement}

@@ -6,8 +6,8 @@ use lib.IntN.{_+ℤ_}
 use Rattle.laws.specs.Range.{at}
 use Rattle.laws.proofs.Ints.{ints}
 use Rattle.laws.proofs.Tables.{Filled, filled-none, filled-more}
-use Rattle.residual.specs.Clip.{Clip1}
-use Rattle.residual.proofs.Clipped.{sum-is}
+use Rattle.basics.specs.Clip.{Clip1}
+use Rattle.basics.proofs.Clipped.{sum-is}
 use borrow.Author.Needs.{needs}
 use Rattle.residual.proofs.reconstruct.clipped_sums.Statement.{statement}
 use Rattle.residual.proofs.reconstruct.clipped_sums.Tie as tie

@@ -8,7 +8,7 @@ use lib.IntN.{pos, _+ℤ_}
 use lib.ListN.{length, getD, length-set}
 use Rattle.laws.specs.Range.{at}
 use Rattle.laws.proofs.Patches.{front-next, length-front}
-use Rattle.residual.specs.Clip.{Clip1}
+use Rattle.basics.specs.Clip.{Clip1}
 use Rattle.residual.proofs.reconstruct.put_four.Statement.{statement}
 use Rattle.residual.proofs.reconstruct.put_four.Tie as tie
 

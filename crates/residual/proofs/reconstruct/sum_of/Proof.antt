@@ -2,7 +2,7 @@
 use mathlib.Core.Path.{_∙_}
 use borrow.Author.Needs.{needs}
 use Rattle.laws.proofs.Ints.{short-fits}
-use Rattle.residual.proofs.Clipped.{sum-fits, short-sum}
+use Rattle.basics.proofs.Clipped.{sum-fits, short-sum}
 use Rattle.residual.proofs.reconstruct.sum_of.Statement.{statement}
 use Rattle.residual.proofs.reconstruct.sum_of.Tie as tie
 

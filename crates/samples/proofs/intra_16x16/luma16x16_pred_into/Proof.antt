@@ -5,8 +5,8 @@ use denote.Ref.{now}
 use lib.ListN.{length}
 use Rattle.laws.proofs.Answers.{refused}
 use Rattle.laws.proofs.Ontos.{onto-all}
-use Rattle.samples.specs.Marks.{permitted16x16}
-use Rattle.samples.proofs.Modes.{Answered, unanswered, answered}
+use Rattle.basics.specs.Marks.{permitted16x16}
+use Rattle.basics.proofs.Modes.{Answered, unanswered, answered}
 use borrow.Author.Needs.{needs}
 use Rattle.samples.proofs.intra_16x16.luma16x16_pred_into.Statement.{statement}
 use Rattle.samples.proofs.intra_16x16.luma16x16_pred_into.Tie as tie

@@ -5,8 +5,8 @@ use denote.Ref.{now}
 use lib.ListN.{length}
 use Rattle.laws.proofs.Answers.{refused}
 use Rattle.laws.proofs.Ontos.{onto-all}
-use Rattle.samples.specs.Marks.{permittedChroma}
-use Rattle.samples.proofs.Modes.{Answered, unanswered, answered}
+use Rattle.basics.specs.Marks.{permittedChroma}
+use Rattle.basics.proofs.Modes.{Answered, unanswered, answered}
 use borrow.Author.Needs.{needs}
 use Rattle.samples.proofs.intra_chroma.chroma8x8_pred_into.Statement.{statement}
 use Rattle.samples.proofs.intra_chroma.chroma8x8_pred_into.Tie as tie

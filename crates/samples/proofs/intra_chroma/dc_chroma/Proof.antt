@@ -1,7 +1,7 @@
 -- `samples::intra_chroma::dc_chroma` meets its contract: each sample is its region's. Assumes nothing.
 use denote.Ref.{now}
+use Rattle.basics.specs.Near.{near}
 use Rattle.samples.specs.IntraChroma.{chromaDc}
-use Rattle.samples.specs.Near.{near}
 use Rattle.samples.proofs.Whole.{drawn, region-at}
 use borrow.Author.Needs.{needs}
 use Rattle.samples.proofs.intra_chroma.dc_chroma.Statement.{statement}

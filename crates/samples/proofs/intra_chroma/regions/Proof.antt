@@ -3,7 +3,7 @@ use mathlib.Core.Path.{ap, _∙_}
 use mathlib.Core.Bool.{Bool}
 use Prim.Native.Nat.{_%_}
 use denote.Ref.{now}
-use Rattle.samples.specs.Near.{mean}
+use Rattle.basics.specs.Near.{mean}
 use Rattle.samples.proofs.Whole.{regions-are}
 use borrow.Author.Needs.{needs}
 use Rattle.samples.proofs.intra_chroma.regions.Statement.{statement}

@@ -6,8 +6,8 @@ use Prim.Native.Nat.{ℕ, _-_}
 use native.Mathlib.Omega.{arith}
 use denote.Ref.{now}
 use lib.ListN.{length, drop}
+use Rattle.basics.specs.Near.{nearIn}
 use Rattle.samples.specs.Intra16x16.{predL}
-use Rattle.samples.specs.Near.{nearIn}
 use Rattle.samples.proofs.IntraPlane.{column-in, down-in, near-in, luma-in}
 use borrow.Author.Needs.{needs}
 use Rattle.samples.proofs.intra_plane.luma_at.Statement.{statement}

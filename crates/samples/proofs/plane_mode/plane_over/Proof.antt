@@ -4,7 +4,7 @@ use Prim.Native.Nat.{_*_}
 use native.Mathlib.Omega.{arith}
 use denote.Ref.{now}
 use Rattle.laws.proofs.Ints.{within-back}
-use Rattle.samples.specs.Near.{near}
+use Rattle.basics.specs.Near.{near}
 use Rattle.samples.specs.PlaneMode.{plane}
 use Rattle.samples.proofs.Whole.{ramp-is}
 use borrow.Author.Needs.{needs}
