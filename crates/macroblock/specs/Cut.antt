@@ -31,7 +31,7 @@ eight = record { side = 8; across = 2; wide = 16 }
 abbrev pub whole : ℕ → Cut
 whole q = record { side = q; across = 1; wide = q }
 
--- 6.4.3: block k stands in column scanX k and row scanY k of blocks, and blkIdx (residual/specs/Nnz) is its number from there: each undoes the other
+-- 6.4.3: block k stands in column scanX k and row scanY k of blocks, and blkIdx (basics/specs/Nnz) is its number from there: each undoes the other
 -- (inner/Blocks Scan, shown in proofs/Scan). Four blocks are numbered by 6.4.5 and 6.4.7, row by row, which is the same
 unfoldable pub scanX : ℕ → ℕ
 scanX k = k / 4 % 2 * 2 + k % 4 % 2

@@ -1,6 +1,6 @@
 -- What a map leaves undone, the smallest first, is a permitted order that fills it: a step waits for smaller ones, and those are done by then. Assumes nothing.
 use mathlib.Core.Path.{_≡_, refl, sym, ap, subst, _∙_}
-use mathlib.Core.Bool.{Bool, true, false, cond}
+use mathlib.Core.Bool.{Bool, true, false}
 use mathlib.Core.Logic.{_⊎_, inl, inr, ⊎-elim}
 use mathlib.Core.List.{List, [], _∷_}
 use Prim.Native.Nat.{ℕ, zero, suc, _+_, _<_}
@@ -54,15 +54,14 @@ module _ (n : ℕ) (N : ℕ → ℕ → Type 0) (earlier : (a b : ℕ) → a < n
       next : (i : ℕ) → getD m (suc k + i) 0 ≡ getD d i 0
       next i = ap (λ j. getD m j 0) (omega arith) ∙ same (suc i)
 
-      go : Filling d (suc k) → (b : Bool) → eqb x 1 ≡ b
-          → let o = cond b (undoneFrom (suc k) d) (k ∷ undoneFrom (suc k) d) in Permitted n N o m × AllDone n (marked o m)
-      go ih true t = ih m long (omega arith) (done-more m k below (now ∙ eqb-true x 1 t)) next
+      go : Filling d (suc k) → (b : Bool) → eqb x 1 ≡ b → let o = undoneFrom k (x ∷ d) in Permitted n N o m × AllDone n (marked o m)
+      go ih true t = rw t (ih m long (omega arith) (done-more m k below (now ∙ eqb-true x 1 t)) next)
       go ih false f =
           let more =
           ih (set m k 1) (length-set m k 1 ∙ long) (omega arith)
           (done-more (set m k 1) k (λ b h. done-still m k b (omega (arith, long)) (below b h)) (done-here m k (omega (arith, long))))
           (λ i. getD-set-other m k (suc k + i) 1 0 (omega arith) ∙ next i) in
-          ((inside, (λ u. eqb-false x 1 f (sym now ∙ u)), (λ b w. below b (earlier k b inside w)), more .0), more .1)
+          rw f ((inside, (λ u. eqb-false x 1 f (sym now ∙ u)), (λ b w. below b (earlier k b inside w)), more .0), more .1)
 
   pub undone-fills : (d : List ℕ) → length d ≡ n → Permitted n N (undoneFrom 0 d) d × AllDone n (marked (undoneFrom 0 d) d)
   undone-fills d long = filling d 0 d long (omega arith) (λ b h. absurd (not-suc-le-zero h)) (λ i. ap (λ j. getD d j 0) (omega arith))

@@ -42,11 +42,14 @@ first c = c .before .before .before .before .before .before .before .before .bef
 abbrev start : tie.Else1 → tie.Start
 start c = first (c .before)
 
+abbrev marked : tie.After-marks-of → tie.Else1
+marked c = c .before
+
 abbrev looked : tie.After-ready → tie.After-marks-of
 looked c = c .before .before
 
 abbrev tested : tie.Else2 → tie.Else1
-tested c = looked (c .before) .before
+tested c = marked (looked (c .before))
 
 abbrev asked : tie.After-rebuild → tie.Else2
 asked c = c .before .before .before .before
@@ -73,13 +76,13 @@ within : (c : tie.Else1) → let a = start c .args in (here (given (start c)) < 
 within c = let a = start c .args in (address-inside (a .spot .w) (a .spot .h) (a .spot .x) (a .spot .y) (passed c .place), total-most (a .spot .w) (a .spot .h) (passed c .size))
 
 -- the marks are the picture's, and so `ready` tells whether the call is
-marks-right : (c : tie.After-marks-of) → marksOf (c .marks-of .result) ≡ marks (given (start (c .before)))
+marks-right : (c : tie.After-marks-of) → marksOf (c .marks-of .result) ≡ marks (given (start (marked c)))
 marks-right c =
-    let a = start (c .before) .args in let g = passed (c .before) in
+    let a = start (marked c) .args in let g = passed (marked c) in
     c .marks-of .ensures ∙ marks-at (a .spot .w) (a .spot .h) (a .slices .now) (a .spot .x) (a .spot .y) (g .size) (g .room .slices-long) (g .place)
 
-ready-is : (c : tie.After-ready) → let s = start (looked c .before) in c .ready .result ≡ readyNow (given s) (held s)
-ready-is c = let a = start (looked c .before) .args in c .ready .ensures ∙ ap (λ m. allSettled (a .spot .w) (a .spot .x) (a .spot .y) m (a .done .now)) (marks-right (looked c))
+ready-is : (c : tie.After-ready) → let s = start (marked (looked c)) in c .ready .result ≡ readyNow (given s) (held s)
+ready-is c = let a = start (marked (looked c)) .args in c .ready .ensures ∙ ap (λ m. allSettled (a .spot .w) (a .spot .x) (a .spot .y) m (a .done .now)) (marks-right (looked c))
 
 ok-ready : (c : tie.Else2) → readyNow (given (start (tested c))) (held (start (tested c))) ≡ true
 ok-ready c = sym (ready-is (c .before)) ∙ not-false _ (c .if2 .left)
@@ -103,7 +106,7 @@ returns c = let s = first (c .before) in (refused-early (given s) (held s) (earl
 
 returns-2 : tie.Need-returns-2
 returns-2 c =
-    let e = looked (c .before) .before in
+    let e = marked (looked (c .before)) in
     (refused-5 (given (start e)) (held (start e)) (ok-early e) (sym (ready-is (c .before)) ∙ not-true _ (c .if2 .taken)), any-order)
 
 returns-3 : tie.Need-returns-3
@@ -229,4 +232,9 @@ same-length-16 : tie.Need-same-length-16
 same-length-16 c = search needs
 
 pub rebuild-spec : {M : Type 1} → statement M
-rebuild-spec = tie.close (tie.spec element-copy-out-here element-copy-out-accepted both-requires refuse-requires same-length same-length-2 same-length-3 same-length-4 returns marks-of-requires ready-requires same-length-5 same-length-6 same-length-7 same-length-8 returns-2 rebuild-requires same-length-9 same-length-10 same-length-11 same-length-12 returns-3 mul-here add-here cast-done slice-write-done mul-accepted accepted-requires same-length-13 same-length-14 same-length-15 same-length-16 returns-4)
+rebuild-spec =
+    tie.close
+    (tie.spec element-copy-out-here element-copy-out-accepted both-requires refuse-requires same-length same-length-2 same-length-3
+    same-length-4 returns marks-of-requires ready-requires same-length-5 same-length-6 same-length-7 same-length-8 returns-2
+    rebuild-requires same-length-9 same-length-10 same-length-11 same-length-12 returns-3 mul-here add-here cast-done
+    slice-write-done mul-accepted accepted-requires same-length-13 same-length-14 same-length-15 same-length-16 returns-4)
