@@ -88,67 +88,58 @@ pub(crate) fn starts() {
     tell(b"start, 3 by 2, 5 bytes", start_5(3, 2));
 }
 
-// One call on a row of w macroblocks, with maps of 120 entries and of 3.
-fn in_120(w: u32, luma_stride: usize, chroma_stride: usize) -> u32 {
+// One call on a row of macroblocks, with these maps, and with maps of 120 entries and of 3.
+fn in_row(
+    spot: Spot,
+    luma_stride: usize,
+    chroma_stride: usize,
+    done: &mut [u8],
+    slices: &[u16],
+) -> u32 {
     let mut luma = [0u8; 32768];
     let mut cb = [0u8; 8192];
     let mut cr = [0u8; 8192];
+    let strides = Strides {
+        luma: luma_stride,
+        cb: chroma_stride,
+        cr: chroma_stride,
+    };
+    let mut progress = [0u32; 2];
+    offer(
+        spot,
+        &mut luma,
+        &mut cb,
+        &mut cr,
+        strides,
+        done,
+        slices,
+        &mut progress,
+        flat(2),
+    )
+}
+
+fn in_120(w: u32, luma_stride: usize, chroma_stride: usize) -> u32 {
     let mut done = [0u8; 120];
     let slices = [0u16; 120];
-    let mut progress = [0u32; 2];
     let spot = Spot {
         w,
         h: 1,
         x: 0,
         y: 0,
     };
-    let strides = Strides {
-        luma: luma_stride,
-        cb: chroma_stride,
-        cr: chroma_stride,
-    };
-    offer(
-        spot,
-        &mut luma,
-        &mut cb,
-        &mut cr,
-        strides,
-        &mut done,
-        &slices,
-        &mut progress,
-        flat(2),
-    )
+    in_row(spot, luma_stride, chroma_stride, &mut done, &slices)
 }
 
 fn in_3(x: u32, luma_stride: usize, chroma_stride: usize) -> u32 {
-    let mut luma = [0u8; 32768];
-    let mut cb = [0u8; 8192];
-    let mut cr = [0u8; 8192];
     let mut done = [0u8; 3];
     let slices = [0u16; 3];
-    let mut progress = [0u32; 2];
     let spot = Spot {
         w: 3,
         h: 1,
         x,
         y: 0,
     };
-    let strides = Strides {
-        luma: luma_stride,
-        cb: chroma_stride,
-        cr: chroma_stride,
-    };
-    offer(
-        spot,
-        &mut luma,
-        &mut cb,
-        &mut cr,
-        strides,
-        &mut done,
-        &slices,
-        &mut progress,
-        flat(2),
-    )
+    in_row(spot, luma_stride, chroma_stride, &mut done, &slices)
 }
 
 pub(crate) fn sizes() {

@@ -26,8 +26,8 @@ pub extern "C" fn jiwarbend_start(w: u32, h: u32, done: &mut [u8], progress: &mu
         return s.answer;
     }
     let after = s.progress;
-    let both = [after.count, after.last];
-    *progress = both;
+    let stored = [after.count, after.last];
+    *progress = stored;
     0
 }
 

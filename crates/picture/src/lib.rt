@@ -128,7 +128,7 @@ pub fn rebuild(
     let here = spot.y * spot.w + spot.x;
     done[here as usize] = 1;
     let after = accepted(before, here, spot.h * spot.w);
-    let both = [after.count, after.last];
-    *progress = both;
+    let stored = [after.count, after.last];
+    *progress = stored;
     0
 }

@@ -371,14 +371,22 @@ fn put_four(res: &[i16], k: usize, pred: &[u8], p: usize, x: usize, row: &mut [u
     ensures { λ _. ⌜ ((l : List ℕ) → now (row .entry) ≡ summed (now (res .entry)) k (now (pred .entry)) p x l
         → now (row .exit) ≡ summed (now (res .entry)) k (now (pred .entry)) p (x + 4) l) ⌝ }
 {
-    let a = sum_of(pred[p + x], res[k + x]);
-    let b = sum_of(pred[p + (x + 1)], res[k + (x + 1)]);
-    let c = sum_of(pred[p + (x + 2)], res[k + (x + 2)]);
-    let d = sum_of(pred[p + (x + 3)], res[k + (x + 3)]);
+    let a = sum_at(res, k, pred, p, x);
+    let b = sum_at(res, k, pred, p, x + 1);
+    let c = sum_at(res, k, pred, p, x + 2);
+    let d = sum_at(res, k, pred, p, x + 3);
     row[x] = a;
     row[x + 1] = b;
     row[x + 2] = c;
     row[x + 3] = d;
+}
+
+// The clipped sum at place `x` of a row, whose residuals stand from `k` on and whose prediction stands from `p` on.
+fn sum_at(res: &[i16], k: usize, pred: &[u8], p: usize, x: usize) -> u8
+    requires { ⌜ (k + x < length (now res)) × (p + x < length (now pred)) ⌝ }
+    ensures { λ s. ⌜ s ≡ Clip1 (pos (getD (now (pred .entry)) (p + x) 0) +ℤ at (now (res .entry)) (k + x)) ⌝ }
+{
+    sum_of(pred[p + x], res[k + x])
 }
 
 // The clipped sum of a sample and a residual.

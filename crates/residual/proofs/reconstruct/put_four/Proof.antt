@@ -2,8 +2,7 @@
 use mathlib.Core.Path.{_≡_}
 use Prim.Native.Nat.{ℕ, _+_}
 use native.Mathlib.Omega.{arith}
-use mir.Facts.{toZ-ofZ}
-use borrow.Author.Needs.{needs, sfits-of}
+use borrow.Author.Needs.{needs}
 use lib.IntN.{pos, _+ℤ_}
 use lib.ListN.{length, getD, length-set}
 use Rattle.laws.specs.Range.{at}
@@ -23,28 +22,24 @@ slice-write-row-4 c = simp length-set (omega arith)
 
 returns : tie.Need-returns
 returns c l e =
-    let k3 = c .before .before .before in
-    let k2 = k3 .before .before .before in
-    let k1 = k2 .before .before .before in
-    let u = k1 .before .before .before .before .before in
-    let a = u .args in
+    let k3 = c .before in
+    let k2 = k3 .before in
+    let k1 = k2 .before in
+    let a = k1 .before .before .before .args in
     let x = a .x in
     let f : ℕ → ℕ = λ i. Clip1 (pos (getD (a .pred .now) (a .p + i) 0) +ℤ at (a .res .now) (a .k + i)) in
     let long : length (a .row .now) ≡ length l = length-front f x l (a .row .now) e in
     front-next (x + 3) (x + 4) f l (omega arith) (omega arith)
     (front-next (x + 2) (x + 3) f l (omega arith) (omega arith)
     (front-next (x + 1) (x + 2) f l (omega arith) (omega arith)
-    (front-next x (x + 1) f l (omega arith) (omega arith) e (simp (toZ-ofZ, sfits-of, k1 .before .sum-of-arg .given) at (k1 .sum-of .ensures)))
-    (simp (toZ-ofZ, sfits-of, k2 .before .sum-of-arg2 .given) at (k2 .sum-of2 .ensures)))
-    (simp (toZ-ofZ, sfits-of, k3 .before .sum-of-arg3 .given) at (k3 .sum-of3 .ensures)))
-    (simp (toZ-ofZ, sfits-of, c .before .sum-of-arg4 .given) at (c .sum-of4 .ensures))
+    (front-next x (x + 1) f l (omega arith) (omega arith) e (k1 .sum-at .ensures))
+    (k2 .sum-at2 .ensures))
+    (k3 .sum-at3 .ensures))
+    (c .sum-at4 .ensures)
 
 pub put-four-spec : {M : Type 1} → statement M
 put-four-spec =
     tie.close
-    (tie.spec (λ c. search needs) (λ c. search needs) (λ c. search needs) (λ c. search needs) (λ c. search needs) (λ c κs. search needs)
-    (λ c. search needs) (λ c. search needs) (λ c. search needs) (λ c. search needs) (λ c. search needs) (λ c. search needs) (λ c. search needs)
-    (λ c κs. search needs) (λ c. search needs) (λ c. search needs) (λ c. search needs) (λ c. search needs) (λ c. search needs) (λ c. search needs)
-    (λ c. search needs) (λ c κs. search needs) (λ c. search needs) (λ c. search needs) (λ c. search needs) (λ c. search needs) (λ c. search needs)
-    (λ c. search needs) (λ c. search needs) (λ c κs. search needs) (λ c. search needs) (λ c. search needs) slice-write-row-2 (λ c. search needs)
-    slice-write-row-3 (λ c. search needs) slice-write-row-4 (λ c. search needs) returns)
+    (tie.spec (λ c κs. search needs) (λ c. search needs) (λ c κs. search needs) (λ c. search needs) (λ c κs. search needs) (λ c. search needs)
+    (λ c κs. search needs) (λ c. search needs) (λ c. search needs) slice-write-row-2 (λ c. search needs) slice-write-row-3 (λ c. search needs)
+    slice-write-row-4 (λ c. search needs) returns)
