@@ -1,6 +1,6 @@
 -- The laws about this crate's definitions.
 pub mod Clipped
 pub mod Dc
-pub mod Lines
+pub mod Fills
 pub mod Modes
 pub mod Near

@@ -1,7 +1,8 @@
 // A macroblock offered to a picture: the record is taken apart here, for the call takes its parts.
+use jiwarbend::pictures::jiwarbend_rebuild;
 use macroblock::Record;
 use macroblock::Strides;
-use picture::Spot;
+use maps::size::Spot;
 
 pub(crate) fn offer(
     spot: Spot,
@@ -16,12 +17,17 @@ pub(crate) fn offer(
 ) -> u32 {
     let modes = record.modes;
     let numbers = record.numbers;
-    picture::rebuild(
-        spot,
+    jiwarbend_rebuild(
+        spot.w,
+        spot.h,
+        spot.x,
+        spot.y,
         luma,
+        strides.luma,
         cb,
+        strides.cb,
         cr,
-        strides,
+        strides.cr,
         done,
         slices,
         progress,

@@ -2,11 +2,10 @@
 // nothing else is said, in planes with padding beside and after the rows.
 use super::offer::offer;
 use super::tell::tell;
+use jiwarbend::pictures::jiwarbend_start;
 use macroblock::Record;
 use macroblock::Strides;
-use maps::progress::Progress;
-use maps::progress::start_core;
-use picture::Spot;
+use maps::size::Spot;
 
 // A record of a kind with DC everywhere: permitted wherever it stands.
 fn flat(kind: u8) -> Record {
@@ -66,17 +65,20 @@ fn with_number(r: Record, v: i32) -> Record {
 // Starting a picture with 8160, 6 and 5 bytes of a done map.
 fn start_8160(w: u32, h: u32) -> u32 {
     let mut done = [7u8; 8160];
-    start_core(w, h, &mut done, Progress { count: 9, last: 9 }).answer
+    let mut progress = [9u32; 2];
+    jiwarbend_start(w, h, &mut done, &mut progress)
 }
 
 fn start_6(w: u32, h: u32) -> u32 {
     let mut done = [7u8; 6];
-    start_core(w, h, &mut done, Progress { count: 9, last: 9 }).answer
+    let mut progress = [9u32; 2];
+    jiwarbend_start(w, h, &mut done, &mut progress)
 }
 
 fn start_5(w: u32, h: u32) -> u32 {
     let mut done = [7u8; 5];
-    start_core(w, h, &mut done, Progress { count: 9, last: 9 }).answer
+    let mut progress = [9u32; 2];
+    jiwarbend_start(w, h, &mut done, &mut progress)
 }
 
 pub(crate) fn starts() {

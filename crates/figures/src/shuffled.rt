@@ -3,12 +3,11 @@
 ghost use Prim.Native.Nat.{_<_};
 use super::offer::offer;
 use super::tell::tell;
+use jiwarbend::pictures::jiwarbend_start;
 use libc::STDOUT_FILENO;
 use macroblock::Record;
 use macroblock::Strides;
-use maps::progress::Progress;
-use maps::progress::start_core;
-use picture::Spot;
+use maps::size::Spot;
 
 const SLICES: [u16; 6] = [0, 0, 1, 0, 0, 1];
 
@@ -156,8 +155,8 @@ fn rebuild_all(
         not_ready: 0,
         other: 0,
     };
-    let started = start_core(3, 2, done, Progress { count: 9, last: 9 }).progress;
-    let mut progress = [started.count, started.last];
+    let mut progress = [9u32; 2];
+    jiwarbend_start(3, 2, done, &mut progress);
     let strides = Strides {
         luma: 52,
         cb: 27,

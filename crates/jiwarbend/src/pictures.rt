@@ -4,12 +4,12 @@ ghost use lib.ListN.{length, replicate};
 ghost use Rattle.laws.specs.Answer.{written};
 ghost use Rattle.macroblock.specs.Kinds.{recordOf};
 ghost use Rattle.maps.specs.Progress.{begun, progressOf, startAnswer};
-ghost use Rattle.picture.specs.AnyOrder.{AnyOrder};
-ghost use Rattle.picture.specs.Rebuild.{call, lent, Rebuilds};
-ghost use Rattle.picture.specs.Run.{Picture};
+ghost use Rattle.calls.specs.AnyOrder.{AnyOrder};
+ghost use Rattle.calls.specs.Rebuild.{call, lent, Rebuilds};
+ghost use Rattle.calls.specs.Run.{Picture};
 use macroblock::Strides;
 use maps::progress::Progress;
-use picture::Spot;
+use maps::size::Spot;
 
 #[no_mangle]
 pub extern "C" fn jiwarbend_start(w: u32, h: u32, done: &mut [u8], progress: &mut [u32; 2]) -> u32

@@ -3,6 +3,14 @@ ghost use mathlib.Core.Path.{_≡_};
 ghost use mathlib.Core.Bool.{_&&_};
 ghost use Rattle.maps.specs.Size.{sizeOk, placeOk};
 
+// Where a macroblock stands: the picture's size, and the macroblock's column and row.
+pub struct Spot {
+    pub w: u32,
+    pub h: u32,
+    pub x: u32,
+    pub y: u32,
+}
+
 // Whether W is 1..120 and H is 1..68.
 pub fn size_ok(w: u32, h: u32) -> bool
     ensures { λ r. ⌜ r ≡ sizeOk w h ⌝ }

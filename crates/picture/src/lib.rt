@@ -4,29 +4,22 @@ ghost use Rattle.macroblock.specs.Kinds.{recordOf};
 ghost use Rattle.macroblock.specs.Rules.{listsGood};
 ghost use Rattle.macroblock.specs.declared.Record.{Record};
 ghost use Rattle.maps.specs.Progress.{progressOf};
-ghost use Rattle.picture.specs.AnyOrder.{AnyOrder};
-ghost use Rattle.picture.specs.Rebuild.{call, lent, earlier, Rebuilds};
-ghost use Rattle.picture.specs.Run.{Picture};
+ghost use Rattle.calls.specs.AnyOrder.{AnyOrder};
+ghost use Rattle.calls.specs.Rebuild.{call, lent, earlier, Rebuilds};
+ghost use Rattle.calls.specs.Run.{Picture};
 use macroblock::Strides;
 use maps::done::is_done;
 use maps::done::ready;
 use maps::neighbours::marks_of;
 use maps::progress::Progress;
 use maps::progress::accepted;
+use maps::size::Spot;
 use maps::size::place_ok;
 use maps::size::size_ok;
 use planes::both;
 use planes::room_ok;
 
 mod planes; // the memory that is lent
-
-// Where a macroblock stands: the picture's size in macroblocks, and the macroblock's column and row.
-pub struct Spot {
-    pub w: u32,
-    pub h: u32,
-    pub x: u32,
-    pub y: u32,
-}
 
 // The refusals of a macroblock call before its neighbours are looked at, or 0: for every record whose lists are as long as `lists` says.
 fn refuse(

@@ -3,7 +3,7 @@ ghost use mathlib.Core.Path.{_≡_};
 ghost use mathlib.Core.Bool.{_&&_};
 ghost use Prim.Native.Nat.{_≤_};
 ghost use Rattle.maps.specs.Size.{Size};
-ghost use Rattle.picture.specs.Planes.{three, planeOk, roomOk};
+ghost use Rattle.calls.specs.Planes.{three, planeOk, roomOk};
 use macroblock::Strides;
 
 pub(crate) fn both(p: bool, q: bool) -> bool

@@ -15,7 +15,7 @@ use Rattle.laws.proofs.Sums.{sum-same}
 use Rattle.laws.proofs.Tables.{getD-table}
 use Rattle.basics.specs.Near.{near, vertical, horizontal, mean, dc}
 use Rattle.basics.proofs.Dc.{SumOf, mean-is, dc-is}
-use Rattle.basics.proofs.Lines.{fill-part}
+use Rattle.basics.proofs.Fills.{fill-part}
 use Rattle.basics.proofs.Near.{near-above, near-left}
 use Rattle.samples.specs.Intra16x16.{predL}
 use Rattle.samples.specs.IntraChroma.{regionDc, chromaDc, predC}

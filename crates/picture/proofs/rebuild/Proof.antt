@@ -17,11 +17,11 @@ use Rattle.maps.proofs.Beside.{marks-at}
 use Rattle.maps.proofs.Sizes.{total-most, address-inside}
 use Rattle.macroblock.specs.Kinds.{recordOf, lumaSquare, cbSquare, crSquare}
 use Rattle.macroblock.specs.Rules.{listsGood}
-use Rattle.picture.specs.Rebuild.{Call, call, Lent, lent, here, marks, recordRules, earlier}
-use Rattle.picture.proofs.AnyOrder.{any-order}
-use Rattle.picture.proofs.Rebuilt.{refused-early, refused-5, refused-late, taken, lent-same, lent-rebuilt}
-use Rattle.picture.proofs.Rules.{Passed, passed-is, readyNow}
-use Rattle.picture.proofs.Squares.{by-macroblock}
+use Rattle.calls.specs.Rebuild.{Call, call, Lent, lent, here, marks, recordRules, earlier}
+use Rattle.calls.proofs.AnyOrder.{any-order}
+use Rattle.calls.proofs.Rebuilt.{refused-early, refused-5, refused-late, taken, lent-same, lent-rebuilt}
+use Rattle.calls.proofs.Rules.{Passed, passed-is, readyNow}
+use Rattle.calls.proofs.Squares.{by-macroblock}
 use borrow.Author.Needs.{needs}
 use Rattle.picture.proofs.rebuild.Statement.{statement}
 use Rattle.picture.proofs.rebuild.Tie as tie
@@ -35,21 +35,22 @@ given s =
 abbrev held : tie.Start → Lent
 held s = let a = s .args in lent (a .luma .now) (a .cb .now) (a .cr .now) (a .done .now) (progressOf (a .progress .now))
 
--- the ways back: from the first refusals, from where they are ruled out, where 5 is, and where the macroblock call has answered
+-- the ways back: from the first refusals and from where they are ruled out; from the marks, from where 5 is ruled out, and from where the macroblock call has
+-- answered
 abbrev first : tie.After-refuse → tie.Start
 first c = c .before .before .before .before .before .before .before .before .before .before .before .before .before .before
 
 abbrev start : tie.Else1 → tie.Start
 start c = first (c .before)
 
-abbrev marked : tie.After-marks-of → tie.Else1
-marked c = c .before
+abbrev ruled-out : tie.After-marks-of → tie.Else1
+ruled-out c = c .before
 
 abbrev looked : tie.After-ready → tie.After-marks-of
 looked c = c .before .before
 
 abbrev tested : tie.Else2 → tie.Else1
-tested c = marked (looked (c .before))
+tested c = ruled-out (looked (c .before))
 
 abbrev asked : tie.After-rebuild → tie.Else2
 asked c = c .before .before .before .before
@@ -76,13 +77,13 @@ within : (c : tie.Else1) → let a = start c .args in (here (given (start c)) < 
 within c = let a = start c .args in (address-inside (a .spot .w) (a .spot .h) (a .spot .x) (a .spot .y) (passed c .place), total-most (a .spot .w) (a .spot .h) (passed c .size))
 
 -- the marks are the picture's, and so `ready` tells whether the call is
-marks-right : (c : tie.After-marks-of) → marksOf (c .marks-of .result) ≡ marks (given (start (marked c)))
+marks-right : (c : tie.After-marks-of) → marksOf (c .marks-of .result) ≡ marks (given (start (ruled-out c)))
 marks-right c =
-    let a = start (marked c) .args in let g = passed (marked c) in
+    let a = start (ruled-out c) .args in let g = passed (ruled-out c) in
     c .marks-of .ensures ∙ marks-at (a .spot .w) (a .spot .h) (a .slices .now) (a .spot .x) (a .spot .y) (g .size) (g .room .slices-long) (g .place)
 
-ready-is : (c : tie.After-ready) → let s = start (marked (looked c)) in c .ready .result ≡ readyNow (given s) (held s)
-ready-is c = let a = start (marked (looked c)) .args in c .ready .ensures ∙ ap (λ m. allSettled (a .spot .w) (a .spot .x) (a .spot .y) m (a .done .now)) (marks-right (looked c))
+ready-is : (c : tie.After-ready) → let s = start (ruled-out (looked c)) in c .ready .result ≡ readyNow (given s) (held s)
+ready-is c = let a = start (ruled-out (looked c)) .args in c .ready .ensures ∙ ap (λ m. allSettled (a .spot .w) (a .spot .x) (a .spot .y) m (a .done .now)) (marks-right (looked c))
 
 ok-ready : (c : tie.Else2) → readyNow (given (start (tested c))) (held (start (tested c))) ≡ true
 ok-ready c = sym (ready-is (c .before)) ∙ not-false _ (c .if2 .left)
@@ -106,7 +107,7 @@ returns c = let s = first (c .before) in (refused-early (given s) (held s) (earl
 
 returns-2 : tie.Need-returns-2
 returns-2 c =
-    let e = marked (looked (c .before)) in
+    let e = ruled-out (looked (c .before)) in
     (refused-5 (given (start e)) (held (start e)) (ok-early e) (sym (ready-is (c .before)) ∙ not-true _ (c .if2 .taken)), any-order)
 
 returns-3 : tie.Need-returns-3

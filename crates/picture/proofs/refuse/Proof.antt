@@ -7,8 +7,8 @@ use native.Mathlib.Omega.{arith}
 use borrow.Author.Tests.{not-true, not-false}
 use Rattle.maps.specs.Size.{total, address, sizeOk, placeOk}
 use Rattle.maps.proofs.Sizes.{size-is, total-most, place-is, address-inside}
-use Rattle.picture.specs.Planes.{roomOk}
-use Rattle.picture.specs.Rebuild.{earlierRules}
+use Rattle.calls.specs.Planes.{roomOk}
+use Rattle.calls.specs.Rebuild.{earlierRules}
 use borrow.Author.Needs.{needs}
 use Rattle.picture.proofs.refuse.Statement.{statement}
 use Rattle.picture.proofs.refuse.Tie as tie

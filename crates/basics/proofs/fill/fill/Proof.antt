@@ -5,7 +5,7 @@ use native.Mathlib.Omega.{arith}
 use lib.ListN.{length, length-set}
 use Rattle.laws.specs.Table.{onto}
 use Rattle.laws.proofs.Ontos.{onto-none, onto-more}
-use Rattle.basics.proofs.Lines.{fill-all}
+use Rattle.basics.proofs.Fills.{fill-all}
 use borrow.Author.Needs.{needs}
 use Rattle.basics.proofs.fill.fill.Statement.{statement}
 use Rattle.basics.proofs.fill.fill.Tie as tie

@@ -1,6 +1,6 @@
 -- `intra_nxn::intra_4x4::draw4` meets its contract: DC is one sample everywhere, and every other mode is drawn from the run and its means. Assumes nothing.
 use denote.Ref.{now}
-use Rattle.basics.proofs.Lines.{fill-block}
+use Rattle.basics.proofs.Fills.{fill-block}
 use Rattle.intra_nxn.specs.IntraNxN.{predNxN}
 use borrow.Author.Needs.{needs}
 use Rattle.intra_nxn.proofs.intra_4x4.draw4.Statement.{statement}

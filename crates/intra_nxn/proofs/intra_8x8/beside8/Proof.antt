@@ -5,7 +5,7 @@ use native.Mathlib.Omega.{arith}
 use lib.ListN.{length, getD}
 use Rattle.laws.specs.Table.{onto}
 use Rattle.laws.proofs.Ontos.{onto-none, onto-long}
-use Rattle.basics.proofs.Lines.{fill-part}
+use Rattle.basics.proofs.Fills.{fill-part}
 use borrow.Author.Needs.{needs}
 use Rattle.intra_nxn.proofs.intra_8x8.beside8.Statement.{statement}
 use Rattle.intra_nxn.proofs.intra_8x8.beside8.Tie as tie

@@ -5,7 +5,7 @@ use native.Mathlib.Omega.{arith}
 use denote.Ref.{now}
 use lib.ListN.{getD}
 use Rattle.laws.proofs.Blocks.{block-same}
-use Rattle.basics.proofs.Lines.{fill-block}
+use Rattle.basics.proofs.Fills.{fill-block}
 use Rattle.intra_nxn.specs.IntraNxN.{predNxN}
 use Rattle.intra_nxn.proofs.Slides.{rows-are}
 use borrow.Author.Needs.{needs}

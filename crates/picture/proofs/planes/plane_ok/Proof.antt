@@ -5,8 +5,8 @@ use Prim.Native.Nat.{_*_, _-_, _≤_}
 use native.Mathlib.Omega.{arith}
 use borrow.Author.Tests.{le-leb}
 use Rattle.laws.proofs.Digits.{mul-most}
-use Rattle.picture.specs.Planes.{planeOk}
-use Rattle.picture.proofs.Lending.{plane-no}
+use Rattle.calls.specs.Planes.{planeOk}
+use Rattle.calls.proofs.Lending.{plane-no}
 use Rattle.picture.proofs.planes.plane_ok.Statement.{statement}
 use Rattle.picture.proofs.planes.plane_ok.Tie as tie
 

@@ -6,7 +6,7 @@ use denote.Ref.{now}
 use lib.ListN.{length, getD}
 use Rattle.laws.specs.Table.{onto}
 use Rattle.laws.proofs.Ontos.{onto-none, onto-long}
-use Rattle.basics.proofs.Lines.{fill-part}
+use Rattle.basics.proofs.Fills.{fill-part}
 use borrow.Author.Needs.{needs}
 use Rattle.samples.proofs.intra_chroma.spread.Statement.{statement}
 use Rattle.samples.proofs.intra_chroma.spread.Tie as tie

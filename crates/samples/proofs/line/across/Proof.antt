@@ -9,7 +9,7 @@ use lib.ListN.{length, getD}
 use Rattle.laws.specs.Table.{onto}
 use Rattle.laws.proofs.Digits.{row-in}
 use Rattle.laws.proofs.Ontos.{onto-none, onto-long}
-use Rattle.basics.proofs.Lines.{fill-part}
+use Rattle.basics.proofs.Fills.{fill-part}
 use borrow.Author.Needs.{needs}
 use Rattle.samples.proofs.line.across.Statement.{statement}
 use Rattle.samples.proofs.line.across.Tie as tie

@@ -9,10 +9,10 @@ use Rattle.laws.proofs.Answers.{refused}
 use Rattle.maps.specs.Progress.{acceptedOf}
 use Rattle.maps.specs.Size.{total}
 use Rattle.maps.specs.declared.progress.Progress.{Progress}
-use Rattle.picture.specs.Planes.{Plane, three}
-use Rattle.picture.specs.Planes.Plane.{luma, cb, cr}
-use Rattle.picture.specs.Rebuild.{Call, Lent, lent, here, earlier, recordRules, squareIn, rebuilt, Rebuilds}
-use Rattle.picture.proofs.Rules.{readyNow, refused-by, not-ready, by-record}
+use Rattle.calls.specs.Planes.{Plane, three}
+use Rattle.calls.specs.Planes.Plane.{luma, cb, cr}
+use Rattle.calls.specs.Rebuild.{Call, Lent, lent, here, earlier, recordRules, squareIn, rebuilt, Rebuilds}
+use Rattle.calls.proofs.Rules.{readyNow, refused-by, not-ready, by-record}
 
 module _ (c : Call) (s : Lent) where
   pub refused-early : {r : ℕ} → r ≡ earlier c s → ¬ (r ≡ 0) → Rebuilds c s r s

@@ -8,10 +8,10 @@ use lib.ListN.{length, replicate}
 use Rattle.order.specs.Driver.{play, answers}
 use Rattle.order.specs.Order.{Alike, Done, AllDone, First, Permitted, undoneFrom, ones, raster}
 use Rattle.maps.specs.Neighbours.{Side, beside}
-use Rattle.picture.specs.Planes.{Plane}
-use Rattle.picture.specs.Rebuild.{Call, Lent, here, waitsFor, Acceptable, answerTo, earlier}
-use Rattle.picture.specs.Run.{Picture, totalOf, offer, AllAcceptable, RestAcceptable, Awaits, Lends, decoded, Place, sampleAt, Region, InPicture}
-use Rattle.picture.specs.Run.{driver, started, run, Own, rest, Event, passed, callsOf, StartsRefused}
+use Rattle.calls.specs.Planes.{Plane}
+use Rattle.calls.specs.Rebuild.{Call, Lent, here, waitsFor, Acceptable, answerTo, earlier}
+use Rattle.calls.specs.Run.{Picture, totalOf, offer, AllAcceptable, RestAcceptable, Awaits, Lends, decoded, Place, sampleAt, Region, InPicture}
+use Rattle.calls.specs.Run.{driver, started, run, Own, rest, Event, passed, callsOf, StartsRefused}
 
 pub record AnyOrder (g : Picture) : Type 0 where
   -- ---- the right picture

@@ -14,8 +14,8 @@ use Rattle.maps.specs.Progress.{begun, startAnswer}
 use Rattle.maps.specs.Size.{total}
 use Rattle.macroblock.specs.Square.{inBlock}
 use Rattle.macroblock.specs.declared.Record.{Record}
-use Rattle.picture.specs.Planes.{Plane, side, planeOk}
-use Rattle.picture.specs.Rebuild.{Call, Lent, here, waitsFor, Acceptable, answerTo, squareIn, rebuilt}
+use Rattle.calls.specs.Planes.{Plane, side, planeOk}
+use Rattle.calls.specs.Rebuild.{Call, Lent, here, waitsFor, Acceptable, answerTo, squareIn, rebuilt}
 
 -- ---- what is fixed: a picture's size, its strides, its slice map, and a record for each macroblock
 pub record Picture : Type 0 where

@@ -18,9 +18,9 @@ use Rattle.maps.proofs.Beside.{available-at}
 use Rattle.maps.proofs.Sizes.{size-is, size-yes, place-is, place-yes}
 use Rattle.maps.proofs.Waiting.{settled-is, settled-no}
 use Rattle.macroblock.specs.Rules.{listsGood, knownRule, permittedRule, numbersRule}
-use Rattle.picture.specs.Planes.{roomOk}
-use Rattle.picture.specs.Rebuild.{Call, Lent, here, marks, waitsFor, neighboursRule, rules, answerTo, earlierRules, earlier, recordRules}
-use Rattle.picture.proofs.Lending.{LentRoom, room-is, room-yes}
+use Rattle.calls.specs.Planes.{roomOk}
+use Rattle.calls.specs.Rebuild.{Call, Lent, here, marks, waitsFor, neighboursRule, rules, answerTo, earlierRules, earlier, recordRules}
+use Rattle.calls.proofs.Lending.{LentRoom, room-is, room-yes}
 
 module _ (c : Call) (s : Lent) where
   -- what the rules before the neighbours tell

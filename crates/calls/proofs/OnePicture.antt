@@ -18,13 +18,13 @@ use Rattle.maps.proofs.Sizes.{start-is, address-inside, place-of}
 use Rattle.maps.proofs.Waiting.{undone-is, undone-yes, settled-is, settled-yes}
 use Rattle.macroblock.specs.Local.{Local}
 use Rattle.macroblock.specs.Rules.{listsGood}
-use Rattle.picture.specs.Planes.{Plane, side}
-use Rattle.picture.specs.Rebuild.{Call, Lent, here, marks, waitsFor, recordRules, Acceptable, answerTo, squareIn}
-use Rattle.picture.specs.Run.{Picture, totalOf, offer, Waits, Awaits, Lends, Planes, Place, sampleAt, Region, InPicture, driver, started, Own}
-use Rattle.picture.proofs.Lending.{PlaneRoom, plane-is}
-use Rattle.picture.proofs.Regions.{apart, tell, at-address}
-use Rattle.picture.proofs.Rules.{Passed, passed-is, passed-yes, passed-0, ready-0, by-record}
-use Rattle.picture.proofs.Squares.{square-local}
+use Rattle.calls.specs.Planes.{Plane, side}
+use Rattle.calls.specs.Rebuild.{Call, Lent, here, marks, waitsFor, recordRules, Acceptable, answerTo, squareIn}
+use Rattle.calls.specs.Run.{Picture, totalOf, offer, Waits, Awaits, Lends, Planes, Place, sampleAt, Region, InPicture, driver, started, Own}
+use Rattle.calls.proofs.Lending.{PlaneRoom, plane-is}
+use Rattle.calls.proofs.Regions.{apart, tell, at-address}
+use Rattle.calls.proofs.Rules.{Passed, passed-is, passed-yes, passed-0, ready-0, by-record}
+use Rattle.calls.proofs.Squares.{square-local}
 
 -- ---- the driver
 abbrev pub view : View Lent Planes

@@ -18,10 +18,10 @@ use Rattle.macroblock.specs.Rules.{room, rooms, rebuildAnswer}
 use Rattle.macroblock.specs.declared.Strides.{Strides}
 use Rattle.macroblock.specs.Local.{Local, Promise}
 use Rattle.macroblock.proofs.Promised.{promised}
-use Rattle.picture.specs.Planes.{Plane, side}
-use Rattle.picture.specs.Planes.Plane.{luma, cb, cr}
-use Rattle.picture.specs.Rebuild.{Call, marks, recordRules, squareIn}
-use Rattle.picture.proofs.Lending.{PlaneRoom}
+use Rattle.calls.specs.Planes.{Plane, side}
+use Rattle.calls.specs.Planes.Plane.{luma, cb, cr}
+use Rattle.calls.specs.Rebuild.{Call, marks, recordRules, squareIn}
+use Rattle.calls.proofs.Lending.{PlaneRoom}
 
 module _ (q w h s n x y : ℕ) (q-pos : 0 < q) (fits : PlaneRoom q w h s n) (place : Stands w h x y) where
   below : suc y * q ≤ h * q

@@ -6,8 +6,8 @@ use lib.Dec.{eqb, leb}
 use borrow.Author.Tests.{eqb-true, leb-true, eq-eqb, le-leb}
 use Rattle.laws.proofs.Tests.{no-from, and-both}
 use Rattle.maps.specs.Size.{total}
-use Rattle.picture.specs.Planes.{Plane, side, planeOk, roomOk}
-use Rattle.picture.specs.Planes.Plane.{luma, cb, cr}
+use Rattle.calls.specs.Planes.{Plane, side, planeOk, roomOk}
+use Rattle.calls.specs.Planes.Plane.{luma, cb, cr}
 
 -- a plane of macroblocks of side k
 pub record PlaneRoom (k w h stride bytes : ℕ) : Type 0 where

@@ -10,13 +10,13 @@ use Rattle.maps.specs.Neighbours.{Side, available}
 use Rattle.maps.specs.Progress.{acceptedOf}
 use Rattle.maps.specs.Size.{total, address, sizeRule, placeRule}
 use Rattle.maps.specs.declared.progress.Progress.{Progress}
+use Rattle.maps.specs.declared.size.Spot.{Spot}
 use Rattle.macroblock.specs.Kinds.{lumaSquare, cbSquare, crSquare}
 use Rattle.macroblock.specs.Rules.{listRule, knownRule, permittedRule, numbersRule}
 use Rattle.macroblock.specs.declared.Record.{Record}
 use Rattle.macroblock.specs.declared.Strides.{Strides}
-use Rattle.picture.specs.declared.Spot.{Spot}
-use Rattle.picture.specs.Planes.{Plane, three, roomOk}
-use Rattle.picture.specs.Planes.Plane.{luma, cb, cr}
+use Rattle.calls.specs.Planes.{Plane, three, roomOk}
+use Rattle.calls.specs.Planes.Plane.{luma, cb, cr}
 
 -- what a call is given: the picture's size, a place, the strides, the slice map and a record
 pub record Call : Type 0 where

@@ -13,13 +13,13 @@ use Rattle.order.proofs.Driver.{Sound, done-is-raster, whole-is-raster, padding
 use Rattle.order.proofs.Raster.{raster-permitted, raster-done, build-raster}
 use Rattle.order.proofs.Undone.{some-first}
 use Rattle.maps.specs.Progress.{startAnswer}
-use Rattle.picture.specs.Planes.{Plane}
-use Rattle.picture.specs.Rebuild.{Call, Lent, here, Acceptable, answerTo}
-use Rattle.picture.specs.Run.{Picture, totalOf, offer, AllAcceptable, RestAcceptable, Waits, Awaits, Lends, Planes, decoded, Place, sampleAt, Region, InPicture, driver, started, run, Own, rest, Event, passed, callsOf, StartsRefused}
-use Rattle.picture.specs.Run.Event.{offers, starts}
-use Rattle.picture.specs.AnyOrder.{AnyOrder}
-use Rattle.picture.proofs.OnePicture.{view, fair, spares, step, offer-here, carries, bytes, Good, begins, planes-kept, laws, told, acceptable}
-use Rattle.picture.proofs.Rules.{not-ready-when, never-first}
+use Rattle.calls.specs.Planes.{Plane}
+use Rattle.calls.specs.Rebuild.{Call, Lent, here, Acceptable, answerTo}
+use Rattle.calls.specs.Run.{Picture, totalOf, offer, AllAcceptable, RestAcceptable, Waits, Awaits, Lends, Planes, decoded, Place, sampleAt, Region, InPicture, driver, started, run, Own, rest, Event, passed, callsOf, StartsRefused}
+use Rattle.calls.specs.Run.Event.{offers, starts}
+use Rattle.calls.specs.AnyOrder.{AnyOrder}
+use Rattle.calls.proofs.OnePicture.{view, fair, spares, step, offer-here, carries, bytes, Good, begins, planes-kept, laws, told, acceptable}
+use Rattle.calls.proofs.Rules.{not-ready-when, never-first}
 
 -- starts that are refused leave everything
 same-run : (es : List Event) (s : Lent) → StartsRefused es s → passed es s ≡ play driver (callsOf es) s
