@@ -73,24 +73,24 @@ module _ (g : Picture) (s : Lent) (lends : Lends g s) where
   sparing : Spares driver view (totalOf g) here (Good g s lends)
   sparing = spares (totalOf g) (bytes g s lends)
 
-  waits : (a b : ℕ) → a < totalOf g → Awaits g a b → b < a
-  waits = laws g s lends .earlier
+  only-earlier : (a b : ℕ) → a < totalOf g → Awaits g a b → b < a
+  only-earlier = laws g s lends .earlier
 
   sound : (cs : List Call) → Sound fairly sparing (run g cs s)
   sound cs = sound-run fairly sparing cs (begins g s lends) good
 
-  offered : (t : Lent) → RestAcceptable g (t .done) → Offered fairly sparing waits (offer g) t
+  offered : (t : Lent) → RestAcceptable g (t .done) → Offered fairly sparing only-earlier (offer g) t
   offered t ok a h u = acceptable g s lends a h (ok a h u)
 
   first : (cs : List Call) (a : ℕ) → First (totalOf g) (run g cs s .done) a → Acceptable (offer g a) → answerTo (offer g a) (run g cs s) ≡ 0
-  first cs a f ok = first-taken fairly sparing waits (run g cs s) (sound cs) (acceptable g s lends a (f .inside) ok) f
+  first cs a f ok = first-taken fairly sparing only-earlier (run g cs s) (sound cs) (acceptable g s lends a (f .inside) ok) f
 
   module _ (cs : List Call) (ok : RestAcceptable g (run g cs s .done)) where
-    remaining : Taken fairly sparing waits (offer g) (undoneFrom 0 (run g cs s .done)) (run g cs s)
-    remaining = rest-taken fairly sparing waits (offer g) (run g cs s) (sound cs) (offered (run g cs s) ok)
+    remaining : Taken fairly sparing only-earlier (offer g) (undoneFrom 0 (run g cs s .done)) (run g cs s)
+    remaining = rest-taken fairly sparing only-earlier (offer g) (run g cs s) (sound cs) (offered (run g cs s) ok)
 
     finishes : AllDone (totalOf g) (play driver (rest g (run g cs s .done)) (run g cs s) .done)
-    finishes = rest-full fairly sparing waits (offer g) (run g cs s) (sound cs) (offered (run g cs s) ok)
+    finishes = rest-full fairly sparing only-earlier (offer g) (run g cs s) (sound cs) (offered (run g cs s) ok)
 
     right : Own g cs (started g s) → (p : Plane) → play driver (rest g (run g cs s .done)) (run g cs s) .planes p ≡ decoded g (s .planes) p
     right own p =
@@ -101,10 +101,10 @@ module _ (g : Picture) (s : Lent) (lends : Lends g s) where
         (λ a h. subst (λ t. Done (t .done) a) (sym e) (finishes a h)) p
 
     permitted : (o : List ℕ) → Permitted (totalOf g) (Awaits g) o (run g cs s .done) → answers driver (map (offer g) o) (run g cs s) ≡ replicate (length o) 0
-    permitted o t = permitted-taken fairly sparing waits (offer g) o (run g cs s) (sound cs) (offered (run g cs s) ok) t .0
+    permitted o t = permitted-taken fairly sparing only-earlier (offer g) o (run g cs s) (sound cs) (offered (run g cs s) ok) t .0
 
   in-raster : AllAcceptable g → answers driver (map (offer g) (raster (totalOf g))) (started g s) ≡ replicate (totalOf g) 0
-  in-raster ok = raster-taken fairly sparing waits (offer g) (begins g s lends) good (offered (started g s) (λ a h u. ok a h))
+  in-raster ok = raster-taken fairly sparing only-earlier (offer g) (begins g s lends) good (offered (started g s) (λ a h u. ok a h))
 
 -- ---- demand 3
 pub any-order : (g : Picture) → AnyOrder g
