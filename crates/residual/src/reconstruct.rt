@@ -279,11 +279,10 @@ fn put_checked(
     if !into_room(4, p_len, p_off, p_stride, r_len, r_off, r_stride) {
         return 2;
     }
-    if list != 0 {
-        return list;
+    if list == 0 {
+        put_rows(1, res, pred, p_off, p_stride, rec, r_off, r_stride);
     }
-    put_rows(1, res, pred, p_off, p_stride, rec, r_off, r_stride);
-    0
+    list
 }
 
 // Whether the strides are allowed and both blocks of side n lie in their buffers.
