@@ -15,7 +15,7 @@ use Rattle.order.proofs.Undone.{some-first}
 use Rattle.maps.specs.Progress.{startAnswer}
 use Rattle.calls.specs.Planes.{Plane}
 use Rattle.calls.specs.Rebuild.{Call, Lent, here, Acceptable, answerTo}
-use Rattle.calls.specs.Run.{Picture, totalOf, offer, AllAcceptable, RestAcceptable, Waits, Awaits, Lends, Planes, decoded, Place, sampleAt, Region, InPicture, driver, started, run, Own, rest, Event, passed, callsOf, StartsRefused}
+use Rattle.calls.specs.Run.{Picture, totalOf, offer, AllAcceptable, RestAcceptable, Waits, Awaits, Lends, Planes, decoded, Location, sampleAt, Region, InPicture, driver, started, run, Own, rest, Event, passed, callsOf, StartsRefused}
 use Rattle.calls.specs.Run.Event.{offers, starts}
 use Rattle.calls.specs.AnyOrder.{AnyOrder}
 use Rattle.calls.proofs.OnePicture.{view, fair, spares, step, offer-here, carries, bytes, Good, begins, planes-kept, laws, told, acceptable}
@@ -52,7 +52,7 @@ module _ (g : Picture) (s : Lent) (lends : Lends g s) where
         (λ i h. whole-is-raster (fair (totalOf g)) (laws g s lends) cs (started g s) (begins g s lends) good kept (told g s lends) full (p, i)
         ∙ ap (λ planes. sampleAt (decoded g planes) (p, i)) (planes-kept g s lends))
 
-    outside : (i : Place) → ¬ InPicture g i → sampleAt (run g cs s .planes) i ≡ sampleAt (s .planes) i
+    outside : (i : Location) → ¬ InPicture g i → sampleAt (run g cs s .planes) i ≡ sampleAt (s .planes) i
     outside i out =
         padding-kept (fair (totalOf g)) (laws g s lends) cs (started g s) (begins g s lends) good kept i (λ a h t. out (a, h, t))
         ∙ ap (λ planes. sampleAt planes i) (planes-kept g s lends)

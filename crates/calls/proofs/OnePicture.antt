@@ -20,7 +20,7 @@ use Rattle.macroblock.specs.Local.{Local}
 use Rattle.macroblock.specs.Rules.{listsGood}
 use Rattle.calls.specs.Planes.{Plane, side}
 use Rattle.calls.specs.Rebuild.{Call, Lent, here, marks, waitsFor, recordRules, Acceptable, answerTo, squareIn}
-use Rattle.calls.specs.Run.{Picture, totalOf, offer, Waits, Awaits, Lends, Planes, Place, sampleAt, Region, InPicture, driver, started, Own}
+use Rattle.calls.specs.Run.{Picture, totalOf, offer, Waits, Awaits, Lends, Planes, Location, sampleAt, Region, InPicture, driver, started, Own}
 use Rattle.calls.proofs.Lending.{PlaneRoom, plane-is}
 use Rattle.calls.proofs.Regions.{apart, tell, at-address}
 use Rattle.calls.proofs.Rules.{Passed, passed-is, passed-yes, passed-0, ready-0, by-record}
@@ -109,7 +109,7 @@ module _ (g : Picture) where
           (at-address (side p) (g .stride p) (g .width) (besideX (a % g .width) d) (besideY (a / g .width) d) j (stands a h d (T-true (marks (offer g a) d) v) .column) u)) i t;
     }
 
-    pub told : (i : Place) → Dec (InPicture g i)
+    pub told : (i : Location) → Dec (InPicture g i)
     told (p, i) = tell (side p) (g .stride p) (g .width) (g .height) (sized .0 .some-w) i
 
     -- an acceptable record, once its macroblock is undone and ready

@@ -10,7 +10,7 @@ use Rattle.order.specs.Order.{Alike, Done, AllDone, First, Permitted, undoneFro
 use Rattle.maps.specs.Neighbours.{Side, beside}
 use Rattle.calls.specs.Planes.{Plane}
 use Rattle.calls.specs.Rebuild.{Call, Lent, here, waitsFor, Acceptable, answerTo, earlier}
-use Rattle.calls.specs.Run.{Picture, totalOf, offer, AllAcceptable, RestAcceptable, Awaits, Lends, decoded, Place, sampleAt, Region, InPicture}
+use Rattle.calls.specs.Run.{Picture, totalOf, offer, AllAcceptable, RestAcceptable, Awaits, Lends, decoded, Location, sampleAt, Region, InPicture}
 use Rattle.calls.specs.Run.{driver, started, run, Own, rest, Event, passed, callsOf, StartsRefused}
 
 pub record AnyOrder (g : Picture) : Type 0 where
@@ -22,7 +22,7 @@ pub record AnyOrder (g : Picture) : Type 0 where
   pub fresh : (s t : Lent) → Lends g s → ((p : Plane) → length (t .planes p) ≡ length (s .planes p))
       → Alike sampleAt (InPicture g) (decoded g (s .planes)) (decoded g (t .planes))
   -- and padding is untouched, also half way
-  pub padding : (cs : List Call) (s : Lent) → Lends g s → Own g cs (started g s) → (i : Place) → ¬ InPicture g i
+  pub padding : (cs : List Call) (s : Lent) → Lends g s → Own g cs (started g s) → (i : Location) → ¬ InPicture g i
       → sampleAt (run g cs s .planes) i ≡ sampleAt (s .planes) i
   -- half way, a macroblock that is done is final
   pub final : (cs : List Call) (s : Lent) → Lends g s → Own g cs (started g s) → (a : ℕ) → a < totalOf g → Done (run g cs s .done) a

@@ -59,17 +59,17 @@ Planes = Plane → List ℕ
 abbrev pub decoded : Picture → Planes → Planes
 decoded g planes = upTo (λ a now p. squareIn (offer g a) p (now p)) (totalOf g) planes
 
--- a place is a plane and an index; those of macroblock a, and those of the picture: padding is every other one
-abbrev pub Place : Type 0
-Place = Plane × ℕ
+-- a location is a plane and an index; those of macroblock a, and those of the picture: padding is every other one
+abbrev pub Location : Type 0
+Location = Plane × ℕ
 
-abbrev pub sampleAt : Planes → Place → ℕ
+abbrev pub sampleAt : Planes → Location → ℕ
 sampleAt planes i = getD (planes (i .0)) (i .1) 0
 
-abbrev pub Region : Picture → ℕ → Place → Type 0
+abbrev pub Region : Picture → ℕ → Location → Type 0
 Region g a i = T (inBlock (side (i .0)) (g .stride (i .0)) (a / g .width) (a % g .width) (i .1))
 
-abbrev pub InPicture : Picture → Place → Type 0
+abbrev pub InPicture : Picture → Location → Type 0
 InPicture g i = (a : ℕ) × (a < totalOf g) × Region g a i
 
 -- ---- a run: the picture is started, and then calls come, with any arguments at all; what each answers and leaves is what `rebuild` promises
