@@ -1,12 +1,13 @@
 // The numbers that may be given: coefficients, residuals and predictions in -32768..32767.
 ghost use mathlib.Core.Path.{_≡_};
-ghost use mathlib.Core.Bool.{true, cond};
+ghost use mathlib.Core.Bool.{true};
 ghost use mathlib.Core.List.{[], _∷_};
 ghost use lib.Dec.{eqb};
 ghost use lib.ListN.{length};
-ghost use lib.Signed.{ltZ};
 ghost use Rattle.laws.specs.Answer.{_unless_, answer, written};
 ghost use Rattle.residual.specs.Numbers.{inRange, allInRange};
+use basics::clip::greatest;
+use basics::clip::least;
 
 // Whether every number of `s` lies in that range, by the least and the greatest of them: a loop without a way out is computed side by side.
 pub fn all_in_range(s: &[i32]) -> bool
@@ -20,18 +21,6 @@ pub fn all_in_range(s: &[i32]) -> bool
         high = greatest(high, s[i]);
     }
     -32768 <= low && high <= 32767
-}
-
-fn least(a: i32, b: i32) -> i32
-    ensures { λ r. ⌜ r ≡ cond (ltZ b a) b a ⌝ }
-{
-    if b < a { b } else { a }
-}
-
-fn greatest(a: i32, b: i32) -> i32
-    ensures { λ r. ⌜ r ≡ cond (ltZ a b) b a ⌝ }
-{
-    if a < b { b } else { a }
 }
 
 // The numbers of a list as residuals, which have sixteen bits.
