@@ -16,7 +16,7 @@ use mir.Val.{SFits, toZ, ofZ}
 use mir.ValLaws.{toZ-ofZ}
 use Rattle.laws.specs.Range.{Within, AllWithin, at}
 use Rattle.laws.specs.Table.{table, blockOf, onto}
-use Rattle.laws.proofs.Ints.{ints, within-more, within-neg, within-shr, within-short, within-table, abs-add, parts-abs, parts-shr, back}
+use Rattle.laws.proofs.Ints.{ints, within-back, within-more, within-neg, within-shr, within-short, within-table, abs-add, parts-abs, parts-shr, back}
 use Rattle.laws.proofs.Ontos.{onto-long, onto-row}
 use Rattle.laws.proofs.Tables.{length-table, getD-table, table-same}
 use Rattle.residual.specs.Inverse.{oneDimensional, rowOf, columnOf, rounded, inverse4x4, inverseBlocks}
@@ -45,6 +45,10 @@ one-within k a b c d ha hb hc hd = record { each = places }
     places (suc (suc zero)) = apart (2 * k) (a -ℤ c) (shrZ b 2 -ℤ d) (apart k a c ha hc) (apart k (shrZ b 2) d (within-shr k 2 b hb) hd)
     places (suc (suc (suc zero))) = apart (2 * k) (a +ℤ c) (b +ℤ shrZ d 2) (twice k a c ha hc) (twice k b (shrZ d 2) hb (within-shr k 2 d hd))
     places (suc (suc (suc (suc n)))) = record { within = omega arith }
+
+-- a coefficient in range, as the machine reads it
+pub read-within : {z : ℤ} → Within 32768 z → Within 131072 (toZ w32 (ofZ w32 z))
+read-within {z} h = within-back 131072 z tt (within-more 32768 131072 z h tt)
 
 pub row-within : (d : List ℤ) (i : ℕ) → i < 4 → ((k : ℕ) → k < 16 → Within 32768 (at d k)) → AllWithin 131072 (rowOf d i)
 unfolding rowOf

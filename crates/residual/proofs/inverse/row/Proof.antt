@@ -1,23 +1,16 @@
 -- `residual::inverse::row` meets its contract: the four numbers read are those of the definition. Assumes nothing.
-use Prim.Native.Nat.{_+_, _*_}
 use native.Mathlib.Omega.{arith}
 use mir.Facts.{toZ-ofZ}
 use borrow.Author.Needs.{needs, sfits-of}
-use Rattle.laws.proofs.Ints.{ints}
 use Rattle.residual.specs.Inverse.{rowOf}
-use Rattle.residual.proofs.Transform.{row-within, bounded}
+use Rattle.residual.proofs.Transform.{read-within, row-within, bounded}
 use Rattle.residual.proofs.inverse.row.Statement.{statement}
 use Rattle.residual.proofs.inverse.row.Tie as tie
 
 one-dimensional-requires : tie.Need-one-dimensional-requires
 one-dimensional-requires c κs =
-    let p = c .before .before .before .before .pre in
-    let k = 4 * c .before .before .before .before .args .i in
-    let w0 = p .1 k (omega arith) in
-    let w1 = p .1 (k + 1) (omega arith) in
-    let w2 = p .1 (k + 2) (omega arith) in
-    let w3 = p .1 (k + 3) (omega arith) in
-    (search ints depth 20, search ints depth 20, search ints depth 20, search ints depth 20)
+    let p = c .before .before .before .before .pre .1 in
+    (read-within (p _ (omega arith)), read-within (p _ (omega arith)), read-within (p _ (omega arith)), read-within (p _ (omega arith)))
 
 returns : tie.Need-returns
 unfolding rowOf
