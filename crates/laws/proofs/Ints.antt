@@ -185,15 +185,11 @@ pub ruleset byte-ints = (ints, byte-within, byte-is)
 pub abs-add : (x y : ℤ) → natAbs (x +ℤ y) ≤ natAbs x + natAbs y
 abs-add x y = omega (arith, parts-abs x, parts-abs y, parts-abs (x +ℤ y), parts-add x y)
 
--- what `h += r` asks, and what it leaves
-pub added : (S r : ℤ) (h a b : ℕ) → h ≡ ofZ w32 S → natAbs S ≤ a → Within b r → a + b < 2147483648
-    → SFits w32 (toZ w32 h +ℤ toZ w32 (ofZ w32 r)) × (toZ w32 h +ℤ toZ w32 (ofZ w32 r) ≡ S +ℤ r)
-added S r h a b e p q l =
-    let f = within-fits {z = S} (record { within = omega (arith, q .within) }) in
-    let g = within-fits {z = r} (record { within = omega (arith, q .within) }) in
-    let m = within-fits {z = S +ℤ r} (record { within = omega (arith, q .within, abs-add S r) }) in
-    let s = add-is (toZ w32 h) (toZ w32 (ofZ w32 r)) S r (ap (toZ w32) e ∙ toZ-ofZ w32 S f) (toZ-ofZ w32 r g) in
-    (subst (SFits w32) (sym s) m, s)
+-- what `h += s` asks, and what it leaves
+pub added : (S s : ℤ) (h a b : ℕ) → h ≡ ofZ w32 S → natAbs S ≤ a → Within b s → a + b < 2147483648 → SFits w32 (toZ w32 h +ℤ s) × (toZ w32 h +ℤ s ≡ S +ℤ s)
+added S s h a b e p q l =
+    let i : toZ w32 h ≡ S = ap (toZ w32) e ∙ toZ-ofZ w32 S (within-fits (record { within = omega (arith, q .within) })) in
+    (rw i (within-fits (record { within = omega (arith, q .within, abs-add S s) })), rw i)
 
 -- a number that is not negative, as a signed one: its bits are the number
 pub nat-within : (k n : ℕ) → n ≤ k → k < 2147483648 → Within k (toZ w32 n)

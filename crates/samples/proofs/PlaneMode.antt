@@ -1,4 +1,4 @@
--- Plane prediction: its slopes over a line, and a sample as the machine computes it. Assumes nothing.
+-- Plane prediction: its slopes over a line, and its samples. Assumes nothing.
 use mathlib.Core.Path.{_≡_, sym, ap, ap₂, _∙_, subst}
 use mathlib.Core.List.{List}
 use Prim.Native.Nat.{ℕ, _+_, _-_, _*_, _≤_, _<_}
@@ -6,16 +6,14 @@ use native.Mathlib.Omega.{arith}
 use lib.IntN.{ℤ, pos, natAbs, _+ℤ_, _-ℤ_, _*ℤ_}
 use borrow.Author.Tests.{ne-eqb}
 use lib.ListN.{getD, replicate}
-use lib.Signed.{shrZ}
 use mir.Syntax.{w32}
-use mir.Val.{SFits, toZ, ofZ}
+use mir.Val.{toZ, ofZ}
 use mir.ValLaws.{toZ-pos, toZ-ofZ}
 use Rattle.laws.specs.Range.{Within}
 use Rattle.laws.specs.Table.{sumZ, onto}
-use Rattle.laws.proofs.Ints.{ints, within-fits, within-back, back}
+use Rattle.laws.proofs.Ints.{within-fits, within-back, back}
 use Rattle.laws.proofs.Ontos.{onto-at}
 use Rattle.laws.proofs.Sums.{sumZ-same}
-use Rattle.basics.specs.Clip.{Clip1}
 use Rattle.basics.specs.Near.{Near, near}
 use Rattle.samples.specs.PlaneMode.{slope, gradient, ramp, plane}
 use Rattle.samples.specs.inner.Line.{line}
@@ -50,7 +48,7 @@ plane-same m k p q one above left =
     rw (left (2 * m) (omega arith), above (2 * m) (omega arith), slope-same m (λ i. p i 0) (λ i. q i 0) one above, slope-same m (p 0) (q 0) one left)
 
 -- what is read back from the bits of a number
-abbrev rd : ℤ → ℤ
+abbrev pub rd : ℤ → ℤ
 rd z = toZ w32 (ofZ w32 z)
 
 -- a, b and c as the machine computes them, from the two lines, are the neighbourhood's
@@ -83,19 +81,3 @@ module _ (m k corner : ℕ) (one : 1 ≤ m) where
 pub plane-is : (m k : ℕ) (p : Near) {a b c : ℤ} → Sloped m k p a b c → (x y : ℕ) → ramp (m - 1) (rd a) (rd b) (rd c) x y ≡ plane m k p x y
 unfolding plane
 plane-is m k p s x y = rw (back 8160 (s .a-small) tt ∙ s .a-is, back 2219552 (s .b-small) tt ∙ s .b-is, back 2219552 (s .c-small) tt ∙ s .c-is)
-
--- a sample as the machine computes it
-shifted : (a b c u v : ℤ) → Within 8160 a → Within 2219552 b → Within 2219552 c → Within 30 u → Within 30 v
-    → rd (shrZ (rd (rd (rd (rd a +ℤ rd (rd b *ℤ rd u)) +ℤ rd (rd c *ℤ rd v)) +ℤ pos 16)) 32) ≡ shrZ (a +ℤ b *ℤ u +ℤ c *ℤ v +ℤ pos 16) 32
-shifted a b c u v ha hb hc hu hv = search ints depth 30
-
-pub sample-is : (o : ℕ) (a b c : ℤ) (x y : ℕ) (u v : ℤ) → Within 8160 a → Within 2219552 b → Within 2219552 c → Within 30 u → Within 30 v
-    → u ≡ pos x -ℤ pos o → v ≡ pos y -ℤ pos o
-    → Clip1 (rd (shrZ (rd (rd (rd (rd a +ℤ rd (rd b *ℤ rd u)) +ℤ rd (rd c *ℤ rd v)) +ℤ pos 16)) 32)) ≡ ramp o a b c x y
-unfolding ramp
-sample-is o a b c x y u v ha hb hc hu hv eu ev =
-    ap Clip1 (shifted a b c u v ha hb hc hu hv ∙ ap₂ (λ (s t : ℤ). shrZ (a +ℤ b *ℤ s +ℤ c *ℤ t +ℤ pos 16) 32) eu ev)
-
--- signed arguments, read back from their bits
-pub ramp-back : (o : ℕ) {a b c : ℤ} (x y : ℕ) → SFits w32 a → SFits w32 b → SFits w32 c → ramp o (rd a) (rd b) (rd c) x y ≡ ramp o a b c x y
-ramp-back o {a} {b} {c} x y fa fb fc = rw (toZ-ofZ w32 a fa, toZ-ofZ w32 b fb, toZ-ofZ w32 c fc)

@@ -4,13 +4,17 @@ ghost use mathlib.Core.List.{_++_};
 ghost use Prim.Native.Nat.{_+_, _-_, _*_, _/_, _%_, _≤_, _<_};
 ghost use lib.IntN.{pos, _+ℤ_, _-ℤ_, _*ℤ_};
 ghost use lib.ListN.{length, getD, drop};
-ghost use Rattle.laws.specs.Range.{Within};
+ghost use lib.Signed.{shrZ};
+ghost use Rattle.laws.specs.Range.{Within, minus};
 ghost use Rattle.laws.specs.Table.{blockOf, onto};
+ghost use Rattle.basics.specs.Clip.{Min, Max, Clip1};
 ghost use Rattle.basics.specs.Near.{near};
 ghost use Rattle.samples.specs.PlaneMode.{slope, gradient, ramp, plane};
 ghost use Rattle.samples.specs.inner.Plane.{Sloped};
 use super::line::line_of;
 use basics::clip::clip_u8;
+use basics::clip::greatest;
+use basics::clip::least;
 
 // a, b and c of the clauses.
 pub struct Levels {
@@ -87,24 +91,36 @@ fn past(x: usize, o: usize) -> i32
     x as i32 - o as i32
 }
 
-// The sample in column x and row y.
-fn sample(o: usize, a: i32, b: i32, c: i32, x: usize, y: usize) -> u8
-    requires { ⌜ Within 8160 a × Within 2219552 b × Within 2219552 c × (o < 16) × (x < 16) × (y < 16) ⌝ }
-    ensures { λ r. ⌜ r ≡ ramp o a b c x y ⌝ }
+// v brought into sixteen bits.
+fn hold(v: i32) -> i16
+    ensures { λ r. ⌜ r ≡ Min (Max v (minus 32768)) (pos 32767) ⌝ }
 {
-    let u = past(x, o);
-    let v = past(y, o);
-    clip_u8((a + b * u + c * v + 16) >> 5)
+    least(greatest(v, -32768), 32767) as i16
 }
 
-// A block of side n of them, column by column: the samples of a row are then computed side by side.
+// Clip1( v >> 5 ). What leaves sixteen bits is clipped either way, and in sixteen bits twice as many samples are shifted and clipped at once.
+fn sample_of(v: i32) -> u8
+    ensures { λ r. ⌜ r ≡ Clip1 (shrZ v 32) ⌝ }
+{
+    clip_u8((hold(v) >> 5) as i32)
+}
+
+// A block of side n, column by column. Along the row the first samples of the columns are b apart, and down a column the samples are c apart: the
+// columns' sums run side by side, and no sample takes a product.
 fn ramp_over(n: usize, o: usize, a: i32, b: i32, c: i32, out: &mut [u8])
     requires { ⌜ Within 8160 a × Within 2219552 b × Within 2219552 c × (o < 16) × (1 ≤ n) × (n ≤ 16) × (n * n ≤ length (now out)) ⌝ }
     ensures { λ _. ⌜ now (out .exit) ≡ onto (n * n) (λ k. ramp o a b c (k % n) (k / n)) (now (out .entry)) ⌝ }
 {
+    let mut along = a + b * past(0, o);
+    let lift = c * past(0, o) + 16;
     for x in 0..n {
+        let mut at = along + lift;
+        let mut k = x;
         for y in 0..n {
-            out[y * n + x] = sample(o, a, b, c, x, y);
+            out[k] = sample_of(at);
+            at += c;
+            k += n;
         }
+        along += b;
     }
 }

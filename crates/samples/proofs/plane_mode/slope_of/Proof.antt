@@ -3,12 +3,12 @@
 use mathlib.Core.Path.{_≡_, refl, ap, _∙_}
 use Prim.Native.Nat.{ℕ, _+_, _-_, _*_, _≤_}
 use native.Mathlib.Omega.{arith}
-use lib.IntN.{natAbs, _+ℤ_}
+use lib.IntN.{ℤ, natAbs, _+ℤ_}
 use lib.ListN.{getD}
 use mir.Syntax.{w32}
 use mir.Val.{SFits, toZ, ofZ}
 use Rattle.laws.specs.Table.{sumZ}
-use Rattle.laws.proofs.Ints.{abs-add, added, nat-within}
+use Rattle.laws.proofs.Ints.{abs-add, added, back, nat-within, within-back}
 use Rattle.laws.proofs.Sums.{sumZ-more}
 use Rattle.samples.proofs.PlaneMode.{termOf, term-is, slope-is}
 use borrow.Author.Needs.{needs}
@@ -36,7 +36,10 @@ step : (c : tie.After-term Inv-loop μ-loop) → let l = c .before .before .befo
 step c =
     let l = c .before .before .before .before .loop in
     let a = c .before .before .before .before .before .args in
-    added (sumZ (l .i) (termOf (a .m) (λ k. getD (a .e .now) k 0))) (c .term .result) (l .h) (4080 * 8) 4080 (l .inv .1) (omega arith) (c .term .ensures .1) (omega arith)
+    let S = sumZ (l .i) (termOf (a .m) (λ k. getD (a .e .now) k 0)) in
+    let w = c .term .ensures .1 in
+    let (f, e) = added S _ (l .h) (4080 * 8) 4080 (l .inv .1) (omega arith) (within-back 4080 _ tt w) (omega arith) in
+    (f, e ∙ ap (λ (z : ℤ). S +ℤ z) (back 4080 w tt))
 
 add-h : tie.Need-add-h Inv-loop μ-loop
 add-h c = step c .0
