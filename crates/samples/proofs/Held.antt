@@ -20,6 +20,7 @@ use Rattle.samples.proofs.PlaneMode.{rd}
 abbrev short : ℤ → ℤ
 short z = toZ w16 (ofZ w16 z)
 
+-- v brought into sixteen bits, which it then fits
 abbrev held : ℤ → ℤ
 held v = Min (Max v (minus 32768)) (pos 32767)
 

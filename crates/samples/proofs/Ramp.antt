@@ -42,8 +42,8 @@ pub record Small (o : ℕ) (a b c : ℤ) : Type 0 where
 
 module _ (o : ℕ) (a b c : ℤ) where
   -- the column's part of the number that is clipped
-  abbrev pub along : ℕ → ℤ
-  along x = a +ℤ b *ℤ (pos x -ℤ pos o)
+  abbrev pub rise : ℕ → ℤ
+  rise x = a +ℤ b *ℤ (pos x -ℤ pos o)
 
   -- what the first row adds to it
   abbrev pub lift : ℤ
@@ -51,15 +51,15 @@ module _ (o : ℕ) (a b c : ℤ) where
 
   -- the number, in column x and row y
   abbrev pub height : ℕ → ℕ → ℤ
-  height x y = along x +ℤ c *ℤ (pos y -ℤ pos o) +ℤ pos 16
+  height x y = rise x +ℤ c *ℤ (pos y -ℤ pos o) +ℤ pos 16
 
-  right : (x : ℕ) → along x +ℤ b ≡ along (x + 1)
-  right x = +ℤ-assoc a (b *ℤ (pos x -ℤ pos o)) b ∙ ap (λ (z : ℤ). a +ℤ z) (further b x o)
+  step-right : (x : ℕ) → rise x +ℤ b ≡ rise (x + 1)
+  step-right x = +ℤ-assoc a (b *ℤ (pos x -ℤ pos o)) b ∙ ap (λ (z : ℤ). a +ℤ z) (further b x o)
 
-  down : (x y : ℕ) → height x y +ℤ c ≡ height x (y + 1)
-  down x y =
+  step-down : (x y : ℕ) → height x y +ℤ c ≡ height x (y + 1)
+  step-down x y =
       let d : ℤ = c *ℤ (pos y -ℤ pos o) in
-      swap (along x +ℤ d) (pos 16) c ∙ ap (λ (z : ℤ). z +ℤ pos 16) (+ℤ-assoc (along x) d c ∙ ap (λ (z : ℤ). along x +ℤ z) (further c y o))
+      swap (rise x +ℤ d) (pos 16) c ∙ ap (λ (z : ℤ). z +ℤ pos 16) (+ℤ-assoc (rise x) d c ∙ ap (λ (z : ℤ). rise x +ℤ z) (further c y o))
 
   -- The sums as the machine holds them. None leaves 32 bits, the one past the last of a row or of a column included.
   module _ (w : Small o a b c) where
@@ -69,8 +69,8 @@ module _ (o : ℕ) (a b c : ℤ) where
         record { within = omega (arith, abs-add (pos x) (negℤ (pos o)), within-neg o (pos o) (record { within = le-refl o }) .within, w .o-small) } in
         within-mul 2219552 68806112 s (pos x -ℤ pos o) h d
 
-    along-small : (x : ℕ) → x ≤ 16 → Within 68814272 (along x)
-    along-small x l = record { within = omega (arith, abs-add a (b *ℤ (pos x -ℤ pos o)), w .a-small .within, far b x (w .b-small) l .within) }
+    rise-small : (x : ℕ) → x ≤ 16 → Within 68814272 (rise x)
+    rise-small x l = record { within = omega (arith, abs-add a (b *ℤ (pos x -ℤ pos o)), w .a-small .within, far b x (w .b-small) l .within) }
 
     lift-small : Within 68806128 lift
     lift-small = record { within = omega (arith, abs-add (c *ℤ (pos 0 -ℤ pos o)) (pos 16), far c 0 (w .c-small) (omega arith) .within) }
@@ -78,21 +78,21 @@ module _ (o : ℕ) (a b c : ℤ) where
     height-small : (x y : ℕ) → x ≤ 16 → y ≤ 16 → Within 137620400 (height x y)
     height-small x y l m =
         let d : ℤ = c *ℤ (pos y -ℤ pos o) in
-        record { within = omega (arith, abs-add (along x +ℤ d) (pos 16), abs-add (along x) d, along-small x l .within, far c y (w .c-small) m .within) }
+        record { within = omega (arith, abs-add (rise x +ℤ d) (pos 16), abs-add (rise x) d, rise-small x l .within, far c y (w .c-small) m .within) }
 
-    -- `at = along + lift`, `along += b` and `at += c`: what each asks, and what it leaves
-    pub at-first : (x u v : ℕ) → x ≤ 16 → u ≡ ofZ w32 (along x) → v ≡ ofZ w32 lift
+    -- `at = rise + lift`, `rise += b` and `at += c`: what each asks, and what it leaves
+    pub at-first : (x u v : ℕ) → x ≤ 16 → u ≡ ofZ w32 (rise x) → v ≡ ofZ w32 lift
         → SFits w32 (toZ w32 u +ℤ toZ w32 v) × (toZ w32 u +ℤ toZ w32 v ≡ height x 0)
     at-first x u v l e g =
-        let (f, i) = added (along x) lift u 68814272 68806128 e (along-small x l .within) lift-small (omega arith) in
+        let (f, i) = added (rise x) lift u 68814272 68806128 e (rise-small x l .within) lift-small (omega arith) in
         let k : toZ w32 v ≡ lift = ap (toZ w32) g ∙ back 68806128 lift-small tt in
-        (rw k f, rw k (i ∙ sym (+ℤ-assoc (along x) (c *ℤ (pos 0 -ℤ pos o)) (pos 16))))
+        (rw k f, rw k (i ∙ sym (+ℤ-assoc (rise x) (c *ℤ (pos 0 -ℤ pos o)) (pos 16))))
 
-    pub along-next : (x u : ℕ) → x ≤ 16 → u ≡ ofZ w32 (along x) → SFits w32 (toZ w32 u +ℤ b) × (toZ w32 u +ℤ b ≡ along (x + 1))
-    along-next x u l e = let (f, i) = added (along x) b u 68814272 2219552 e (along-small x l .within) (w .b-small) (omega arith) in (f, i ∙ right x)
+    pub rise-next : (x u : ℕ) → x ≤ 16 → u ≡ ofZ w32 (rise x) → SFits w32 (toZ w32 u +ℤ b) × (toZ w32 u +ℤ b ≡ rise (x + 1))
+    rise-next x u l e = let (f, i) = added (rise x) b u 68814272 2219552 e (rise-small x l .within) (w .b-small) (omega arith) in (f, i ∙ step-right x)
 
     pub at-next : (x y u : ℕ) → x ≤ 16 → y ≤ 16 → u ≡ ofZ w32 (height x y) → SFits w32 (toZ w32 u +ℤ c) × (toZ w32 u +ℤ c ≡ height x (y + 1))
-    at-next x y u l m e = let (f, i) = added (height x y) c u 137620400 2219552 e (height-small x y l m .within) (w .c-small) (omega arith) in (f, i ∙ down x y)
+    at-next x y u l m e = let (f, i) = added (height x y) c u 137620400 2219552 e (height-small x y l m .within) (w .c-small) (omega arith) in (f, i ∙ step-down x y)
 
     -- and the sample that is clipped from it
     pub clipped-is : (x y u : ℕ) → x ≤ 16 → y ≤ 16 → u ≡ ofZ w32 (height x y) → Clip1 (shrZ (toZ w32 u) 32) ≡ ramp o a b c x y

@@ -111,16 +111,16 @@ fn ramp_over(n: usize, o: usize, a: i32, b: i32, c: i32, out: &mut [u8])
     requires { ⌜ Within 8160 a × Within 2219552 b × Within 2219552 c × (o < 16) × (1 ≤ n) × (n ≤ 16) × (n * n ≤ length (now out)) ⌝ }
     ensures { λ _. ⌜ now (out .exit) ≡ onto (n * n) (λ k. ramp o a b c (k % n) (k / n)) (now (out .entry)) ⌝ }
 {
-    let mut along = a + b * past(0, o);
+    let mut rise = a + b * past(0, o);
     let lift = c * past(0, o) + 16;
     for x in 0..n {
-        let mut at = along + lift;
+        let mut at = rise + lift;
         let mut k = x;
         for y in 0..n {
             out[k] = sample_of(at);
             at += c;
             k += n;
         }
-        along += b;
+        rise += b;
     }
 }

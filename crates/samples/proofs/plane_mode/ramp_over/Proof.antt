@@ -16,7 +16,7 @@ use Rattle.laws.proofs.Digits.{mul-most, row-in}
 use Rattle.laws.proofs.Ints.{ints, within-back}
 use Rattle.laws.proofs.Ontos.{onto-same}
 use Rattle.samples.specs.PlaneMode.{ramp}
-use Rattle.samples.proofs.Ramp.{along, lift, height, first-is, at-first, along-next, at-next, clipped-is, ramp-back, Small}
+use Rattle.samples.proofs.Ramp.{rise, lift, height, first-is, at-first, rise-next, at-next, clipped-is, ramp-back, Small}
 use borrow.Author.Needs.{needs}
 use Rattle.samples.proofs.plane_mode.ramp_over.Statement.{statement}
 use Rattle.samples.proofs.plane_mode.ramp_over.Tie as tie
@@ -36,34 +36,11 @@ abbrev μ-loop2 : tie.MeasureT-loop2
 
 abbrev Inv-loop : tie.InvT-loop
 Inv-loop n o a b c out₀ run₀ up x₀ out run x =
-    (x ≤ n) × (length out ≡ length out₀) × (run ≡ ofZ w32 (along o (toZ w32 a) (toZ w32 b) (toZ w32 c) x))
+    (x ≤ n) × (length out ≡ length out₀) × (run ≡ ofZ w32 (rise o (toZ w32 a) (toZ w32 b) (toZ w32 c) x))
     × (up ≡ ofZ w32 (lift o (toZ w32 a) (toZ w32 b) (toZ w32 c))) × (out ≡ columns n (put n o a b c) out₀ (x * n))
 
 abbrev μ-loop : tie.MeasureT-loop
 μ-loop n o a b c out₀ run₀ up x₀ out run x = n - x
-
-mul-along : tie.Need-mul-along Inv-loop2 μ-loop2 Inv-loop μ-loop
-mul-along c = search ints depth 20
-
-add-along : tie.Need-add-along Inv-loop2 μ-loop2 Inv-loop μ-loop
-add-along c = search ints depth 20
-
-mul-lift : tie.Need-mul-lift Inv-loop2 μ-loop2 Inv-loop μ-loop
-mul-lift c = search ints depth 20
-
-add-lift : tie.Need-add-lift Inv-loop2 μ-loop2 Inv-loop μ-loop
-add-lift c = search ints depth 20
-
-loop-holds : tie.Need-loop-holds Inv-loop2 μ-loop2 Inv-loop μ-loop
-loop-holds c =
-    let z = c .before .before .before in
-    let n = z .args .n in (
-      omega arith,
-      refl,
-      ap (λ (t : ℤ). ofZ w32 (toZ w32 (ofZ w32 (z .args .a)) +ℤ t)) (first-is _ _ (z .args .o) (within-back 2219552 _ tt (z .pre .1)) (c .before .past .ensures)),
-      ap (λ (t : ℤ). ofZ w32 (t +ℤ pos 16)) (first-is _ _ (z .args .o) (within-back 2219552 _ tt (z .pre .2)) (c .past2 .ensures)),
-      rw (zero-mul n) (columns-none n _ _),
-    )
 
 -- the machine's a, b and c are as small as they must be
 small : (z : tie.Start Inv-loop2 μ-loop2 Inv-loop μ-loop) → let a = z .args in Small (a .o) (toZ w32 (ofZ w32 (a .a))) (toZ w32 (ofZ w32 (a .b))) (toZ w32 (ofZ w32 (a .c)))
@@ -75,16 +52,27 @@ small z =
       o-small = z .pre .3;
     }
 
+loop-holds : tie.Need-loop-holds Inv-loop2 μ-loop2 Inv-loop μ-loop
+loop-holds c =
+    let z = c .before .before .before in
+    let n = z .args .n in (
+      omega arith,
+      refl,
+      ap (λ (t : ℤ). ofZ w32 (toZ w32 (ofZ w32 (z .args .a)) +ℤ t)) (first-is _ _ (z .args .o) (small z .b-small) (c .before .past .ensures)),
+      ap (λ (t : ℤ). ofZ w32 (t +ℤ pos 16)) (first-is _ _ (z .args .o) (small z .c-small) (c .past2 .ensures)),
+      rw (zero-mul n) (columns-none n _ _),
+    )
+
 add-at : tie.Need-add-at Inv-loop2 μ-loop2 Inv-loop μ-loop
 add-at c =
     let b = c .before in
-    at-first _ _ _ _ (small (b .before .before .before .before)) (b .loop .x) (b .loop .along) _ (omega arith) (b .loop .inv .2) (b .loop .inv .3) .0
+    at-first _ _ _ _ (small (b .before .before .before .before)) (b .loop .x) (b .loop .rise) _ (omega arith) (b .loop .inv .2) (b .loop .inv .3) .0
 
 loop2-holds : tie.Need-loop2-holds Inv-loop2 μ-loop2 Inv-loop μ-loop
 loop2-holds c =
     let b = c .before in
     let z = b .before .before .before .before in
-    let e = at-first _ _ _ _ (small z) (b .loop .x) (b .loop .along) _ (omega arith) (b .loop .inv .2) (b .loop .inv .3) .1 in
+    let e = at-first _ _ _ _ (small z) (b .loop .x) (b .loop .rise) _ (omega arith) (b .loop .inv .2) (b .loop .inv .3) .1 in
     (omega arith, refl, omega (arith, zero-mul (z .args .n)), ap (ofZ w32) e, λ l h e. e ∙ ap (columns _ _ l) (omega arith))
 
 -- the place lies in the block
@@ -127,10 +115,10 @@ loop2-again c =
           (c .sample-of .ensures ∙ v ∙ sym (ap₂ (ramp _ _ _ _) (digits-mod y hx) (digits-div y hx))),
     )
 
-add-along-2 : tie.Need-add-along-2 Inv-loop2 μ-loop2 Inv-loop μ-loop
-add-along-2 c =
+add-rise-2 : tie.Need-add-rise-2 Inv-loop2 μ-loop2 Inv-loop μ-loop
+add-rise-2 c =
     let r = c .before .before .before in
-    along-next _ _ _ _ (small (r .before .before .before .before)) (r .loop .x) (r .loop .along) (omega arith) (r .loop .inv .2) .0
+    rise-next _ _ _ _ (small (r .before .before .before .before)) (r .loop .x) (r .loop .rise) (omega arith) (r .loop .inv .2) .0
 
 loop-again : tie.Need-loop-again Inv-loop2 μ-loop2 Inv-loop μ-loop
 loop-again c =
@@ -140,7 +128,7 @@ loop-again c =
     let n = z .args .n in
     let x = r .loop .x in
     let m : x * n + b .loop2 .y ≡ (x + 1) * n = rw (add-one x) (omega (arith, suc-mul x n)) in
-    let e = along-next _ _ _ _ (small z) x (r .loop .along) (omega arith) (r .loop .inv .2) .1 in
+    let e = rise-next _ _ _ _ (small z) x (r .loop .rise) (omega arith) (r .loop .inv .2) .1 in
     (omega arith, omega arith, ap (ofZ w32) e, r .loop .inv .3, b .loop2 .inv .4 (z .args .out .now) (omega (arith, z .pre)) (r .loop .inv .4) ∙ ap (columns n _ _) m)
 
 same-length : tie.Need-same-length Inv-loop2 μ-loop2 Inv-loop μ-loop
@@ -157,4 +145,6 @@ returns c =
 pub ramp-over-spec : {M : Type 1} → statement M
 ramp-over-spec =
     tie.close
-    (tie.spec Inv-loop2 μ-loop2 Inv-loop μ-loop (λ c κs. search needs) mul-along add-along (λ c κs. search needs) mul-lift add-lift loop-holds add-at loop2-holds (λ c κs. search needs) slice-write-out add-at-2 add-k (λ c. search needs) (λ c. search needs) loop2-again add-along-2 (λ c. search needs) (λ c. search needs) loop-again same-length returns)
+    (tie.spec Inv-loop2 μ-loop2 Inv-loop μ-loop (λ c κs. search needs) (λ c. search ints depth 20) (λ c. search ints depth 20) (λ c κs. search needs)
+    (λ c. search ints depth 20) (λ c. search ints depth 20) loop-holds add-at loop2-holds (λ c κs. search needs) slice-write-out add-at-2 add-k
+    (λ c. search needs) (λ c. search needs) loop2-again add-rise-2 (λ c. search needs) (λ c. search needs) loop-again same-length returns)
