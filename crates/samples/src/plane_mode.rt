@@ -105,7 +105,7 @@ fn sample_of(v: i32) -> u8
     clip_u8((hold(v) >> 5) as i32)
 }
 
-// A block of side n, column by column. Along the row the first samples of the columns are b apart, and down a column the samples are c apart: the
+// A block of side n, column by column, from sums that step: by b from column to column along the row, and by c from row to row down a column. The
 // columns' sums run side by side, and no sample takes a product.
 fn ramp_over(n: usize, o: usize, a: i32, b: i32, c: i32, out: &mut [u8])
     requires { ⌜ Within 8160 a × Within 2219552 b × Within 2219552 c × (o < 16) × (1 ≤ n) × (n ≤ 16) × (n * n ≤ length (now out)) ⌝ }
