@@ -14,33 +14,31 @@ use Rattle.laws.specs.Range.{Within}
 use Rattle.laws.proofs.Ints.{ints, byte-ints, is-byte, short-read}
 use Rattle.basics.specs.Clip.{Min, Max, Clip1}
 
--- the lesser of 255 and the greater of v and 0, by the tests of v: a byte, and Clip1 of v
-module _ (v : ℤ) (f : SFits w32 v) where
-  abbrev chosen : Bool → Bool → ℤ
-  chosen below above = cond below (pos 0) (cond above (pos 255) v)
+-- the lesser of `high` and the greater of v and `low`, as the machine reads them back
+pub bounded-is : (v low high : ℤ) → SFits w32 v → SFits w32 low → SFits w32 high
+    → {m z : ℤ} → m ≡ Max (toZ w32 (ofZ w32 v)) low → z ≡ Min (toZ w32 (ofZ w32 m)) high → toZ w32 (ofZ w32 z) ≡ Min (Max v low) high
+bounded-is v low high f g h {m} {z} e k =
+    let big : SFits w32 (Max v low) = either (ltZ v low) g f in
+    let n : toZ w32 (ofZ w32 m) ≡ Max v low = ap (λ y. toZ w32 (ofZ w32 y)) (e ∙ ap (λ y. Max y low) (toZ-ofZ w32 v f)) ∙ toZ-ofZ w32 (Max v low) big in
+    ap (λ y. toZ w32 (ofZ w32 y)) (k ∙ ap (λ y. Min y high) n) ∙ toZ-ofZ w32 (Min (Max v low) high) (either (ltZ high (Max v low)) h big)
+  where
+    either : (t : Bool) {x y : ℤ} → SFits w32 x → SFits w32 y → SFits w32 (cond t x y)
+    either true p q = p
+    either false p q = q
 
-  abbrev bounded : ℤ
-  bounded = Min (toZ w32 (ofZ w32 (Max (toZ w32 (ofZ w32 v)) (pos 0)))) (pos 255)
+-- between 0 and 255 it is a byte, and Clip1 of v
+module _ (v : ℤ) where
+  abbrev Is : ℤ → Type 0
+  Is u = (T (nonNeg u) × Fits w8 (natAbs u)) × (natAbs u ≡ Clip1 v)
 
-  -- it is one of three numbers, which fits and is a byte
-  abbrev Is : Bool → Bool → Type 0
-  Is below above =
-      let u = chosen below above in
-      (bounded ≡ u) × SFits w32 u × (T (nonNeg u) × Fits w8 (natAbs u)) × (natAbs u ≡ Clip1 v)
-
-  is : (below above : Bool) → ltZ v (pos 0) ≡ below → ltZ (pos 255) v ≡ above → Is below above
+  is : (below above : Bool) → ltZ v (pos 0) ≡ below → ltZ (pos 255) v ≡ above → Is (Min (Max v (pos 0)) (pos 255))
   unfolding Clip1
-  is true above p q = (rw (toZ-ofZ w32 v f, p), sfits-lit tt, (tt, record { fits = omega arith }), rw p)
-  is false true p q = (rw (toZ-ofZ w32 v f, p, toZ-ofZ w32 v f, q), sfits-lit tt, (tt, record { fits = omega arith }), rw (p, q))
-  is false false p q = (rw (toZ-ofZ w32 v f, p, toZ-ofZ w32 v f, q), f, is-byte v p q, rw (p, q))
+  is true above p q = rw p ((tt, record { fits = omega arith }), refl)
+  is false true p q = rw (p, q) ((tt, record { fits = omega arith }), refl)
+  is false false p q = rw (p, q) (is-byte v p q, refl)
 
-  pub clip-is : {m z : ℤ} → m ≡ Max (toZ w32 (ofZ w32 v)) (pos 0) → z ≡ Min (toZ w32 (ofZ w32 m)) (pos 255)
-      → let w = toZ w32 (ofZ w32 z) in (T (nonNeg w) × Fits w8 (natAbs w)) × (natAbs w ≡ Clip1 v)
-  clip-is {m} {z} e g =
-      let a = is (ltZ v (pos 0)) (ltZ (pos 255) v) refl refl in
-      let u = chosen (ltZ v (pos 0)) (ltZ (pos 255) v) in
-      let r : toZ w32 (ofZ w32 z) ≡ u = ap (λ y. toZ w32 (ofZ w32 y)) (g ∙ ap (λ y. Min (toZ w32 (ofZ w32 y)) (pos 255)) e ∙ a .0) ∙ toZ-ofZ w32 u (a .1) in
-      subst (λ y. (T (nonNeg y) × Fits w8 (natAbs y)) × (natAbs y ≡ Clip1 v)) (sym r) (a .2, a .3)
+  pub clip-is : SFits w32 v → {m z : ℤ} → m ≡ Max (toZ w32 (ofZ w32 v)) (pos 0) → z ≡ Min (toZ w32 (ofZ w32 m)) (pos 255) → Is (toZ w32 (ofZ w32 z))
+  clip-is f e g = subst Is (sym (bounded-is v (pos 0) (pos 255) f (sfits-lit tt) (sfits-lit tt) e g)) (is (ltZ v (pos 0)) (ltZ (pos 255) v) refl refl)
 
 -- the clipped sum of a prediction and a residual in range
 pub sum-is : (p r : ℤ) → Within 32768 p → Within 32768 r → Clip1 (toZ w32 (ofZ w32 (toZ w32 (ofZ w32 p) +ℤ toZ w32 (ofZ w32 r)))) ≡ Clip1 (p +ℤ r)

@@ -6,7 +6,7 @@ use native.Mathlib.Omega.{arith}
 use borrow.Author.Tests.{lt-ltb, le-ltb, ltb-true, ltb-false}
 use lib.Dec.{ltb}
 use lib.IntN.{ℤ, pos, negsuc}
-use lib.Signed.{shrZ, ltZ, mag-shr}
+use lib.Signed.{shrZ, mag-shr}
 use mir.Facts.{sfits-lit}
 use mir.Syntax.{w16, w32}
 use mir.Val.{SFits, toZ, ofZ}
@@ -14,6 +14,7 @@ use mir.ValLaws.{toZ-ofZ}
 use Rattle.laws.specs.Range.{Within, minus}
 use Rattle.laws.proofs.Ints.{within-fits, within-more, short-within, back}
 use Rattle.basics.specs.Clip.{Min, Max, Clip1}
+use Rattle.basics.proofs.Clipped.{bounded-is}
 use Rattle.samples.proofs.PlaneMode.{rd}
 
 -- what is read back from sixteen bits
@@ -53,15 +54,9 @@ held-clip (negsuc n) = go (ltb 32767 n)
 module _ (v : ℤ) (f : SFits w32 v) where
   -- the machine holds that number
   pub hold-is : {m z : ℤ} → m ≡ Max (rd v) (minus 32768) → z ≡ Min (rd m) (pos 32767) → SFits w16 (rd z) × (short (rd z) ≡ held v)
-  hold-is {m} {z} e g =
-      let n : m ≡ Max v (minus 32768) = e ∙ ap (λ y. Max y (minus 32768)) (toZ-ofZ w32 v f) in
-      let k : z ≡ held v = g ∙ ap (λ y. Min y (pos 32767)) (ap rd n ∙ toZ-ofZ w32 (Max v (minus 32768)) (fits (ltZ v (minus 32768)))) in
-      let i : rd z ≡ held v = ap rd k ∙ back 32768 (short-within (held-short v)) tt in
+  hold-is e g =
+      let i = bounded-is v (minus 32768) (pos 32767) f (sfits-lit tt) (sfits-lit tt) e g in
       (rw i (held-short v), rw i (toZ-ofZ w16 (held v) (held-short v)))
-    where
-      fits : (t : Bool) → SFits w32 (cond t (minus 32768) v)
-      fits true = sfits-lit tt
-      fits false = f
 
   -- and clips it, shifted
   pub sample-is : {h : ℤ} → h ≡ held (rd v)
