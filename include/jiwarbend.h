@@ -118,7 +118,12 @@ uint32_t jiwarbend_rebuild(uint32_t w, uint32_t h, uint32_t x, uint32_t y,
 /* ---- prediction of one block (clause 8.3)
 
    The marks say which samples beside the block are available; those of an absent side are not read. The answers are 0, 2 for a list of
-   another length than the one given here, 6 and 7. */
+   another length than the one given here, 6 and 7.
+
+   For tests: a luma 4x4 or 8x8 case turned on its side gives another. Exchange left with the first 4 (8) samples of top, and avail_left with
+   avail_top; the mode's partner then answers the same, and its block has rows and columns exchanged. Vertical and horizontal are partners,
+   vertical-right and horizontal-down too, DC and diagonal down-right their own; the other three modes have none. The last 4 (8) samples of top
+   may be any; but where top is available to an 8x8 case, before the exchange or after it, top[8] must equal top[7]. */
 
 /* Luma 4x4, modes 0..8: top 8, left 4, out 16. top[4..7] are the samples above and to the right, or the last one above repeated. */
 uint32_t jiwarbend_intra4x4_pred(uint8_t mode, bool avail_top, bool avail_left, bool avail_corner, const uint8_t *top, size_t top_len,

@@ -4,7 +4,8 @@
 //! nothing; and when all macroblocks of a picture have been accepted, in whatever order, the planes hold byte for byte what decoding in
 //! raster order by ITU-T H.264 gives. This crate is its safe face: it passes slices on, and turns refusals into [`Refusal`].
 //!
-//! A [`Picture`] owns planes and maps, a [`Lent`] borrows them. The routines on single blocks are in [`block`].
+//! A [`Picture`] owns planes and maps, a [`Lent`] borrows them. The routines on single blocks are in [`block`], and [`turned`] saves writers of
+//! tests half of the cases.
 //!
 //! ```
 //! use jiwarbend::{ChromaMode, Luma16x16Mode, Picture, Record, Refusal};
@@ -51,6 +52,7 @@ mod picture;
 mod refusal;
 #[allow(missing_docs)]
 pub mod sys;
+pub mod turned;
 
 pub use modes::{ChromaMode, Kind, Luma16x16Mode, LumaMode};
 pub use picture::{Lent, LentPlane, Picture, Plane, Progress, Record};

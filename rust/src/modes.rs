@@ -89,3 +89,17 @@ numbered! {
         Plane = 3,
     }
 }
+
+impl LumaMode {
+    /// The mode that predicts the transposed block where the block is [turned on its side](crate::turned), or `None`.
+    pub const fn partner(self) -> Option<LumaMode> {
+        match self {
+            LumaMode::Vertical => Some(LumaMode::Horizontal),
+            LumaMode::Horizontal => Some(LumaMode::Vertical),
+            LumaMode::VerticalRight => Some(LumaMode::HorizontalDown),
+            LumaMode::HorizontalDown => Some(LumaMode::VerticalRight),
+            LumaMode::Dc | LumaMode::DiagonalDownRight => Some(self),
+            LumaMode::DiagonalDownLeft | LumaMode::VerticalLeft | LumaMode::HorizontalUp => None,
+        }
+    }
+}

@@ -1,5 +1,6 @@
 //! The routines on single blocks, on the rules' figures and at the edges of what is taken.
 use jiwarbend::block::*;
+use jiwarbend::turned::Case4x4;
 use jiwarbend::Refusal;
 
 const TOP: [u8; 8] = [10, 20, 30, 40, 50, 60, 70, 80];
@@ -9,21 +10,40 @@ fn marks(above: bool, left: bool, corner: bool) -> Marks {
     Marks { above, left, corner }
 }
 
-fn sample(mode: u8, x: usize, y: usize) -> u8 {
-    intra4x4_pred(mode, marks(true, true, true), &TOP, &LEFT, 6).unwrap()[4 * y + x]
+/// The rules' figures of 4x4 prediction: mode, marks, column, row and sample.
+fn figures_4x4() -> Vec<(u8, Marks, usize, usize, u8)> {
+    let all = marks(true, true, true);
+    let dc = [(all, 28), (marks(true, false, false), 25), (marks(false, true, false), 30), (marks(false, false, false), 128)];
+    let slanted = [
+        (3, 0, 0, 20),
+        (3, 3, 3, 78),
+        (8, 0, 0, 18),
+        (8, 1, 0, 24),
+        (8, 1, 2, 45),
+        (8, 3, 3, 48),
+        (5, 0, 0, 8),
+        (5, 0, 1, 9),
+        (5, 0, 2, 14),
+        (6, 0, 0, 9),
+    ];
+    let flat = dc.iter().map(|&(m, v)| (2, m, 3, 1, v));
+    flat.chain(slanted.iter().map(|&(mode, x, y, v)| (mode, all, x, y, v))).collect()
 }
 
 #[test]
 fn figures_of_4x4_prediction() {
-    let dc = |m| intra4x4_pred(2, m, &TOP, &LEFT, 6).unwrap();
-    assert_eq!(dc(marks(true, true, true)), [28; 16]);
-    assert_eq!(dc(marks(true, false, false)), [25; 16]);
-    assert_eq!(dc(marks(false, true, false)), [30; 16]);
-    assert_eq!(dc(marks(false, false, false)), [128; 16]);
-    assert_eq!((sample(3, 0, 0), sample(3, 3, 3)), (20, 78));
-    assert_eq!((sample(8, 0, 0), sample(8, 1, 0), sample(8, 1, 2), sample(8, 3, 3)), (18, 24, 45, 48));
-    assert_eq!((sample(5, 0, 0), sample(5, 0, 1), sample(5, 0, 2)), (8, 9, 14));
-    assert_eq!(sample(6, 0, 0), 9);
+    let (mut given, mut by_turning) = (0, 0);
+    for (mode, marks, x, y, v) in figures_4x4() {
+        let case = Case4x4 { mode, marks, top: TOP, left: LEFT, corner: 6 };
+        assert_eq!(case.predict().unwrap()[4 * y + x], v, "{case:?}");
+        given += 1;
+        // The same figure on its side: what stands above and to the right says nothing there.
+        for turned in [[0; 4], [255; 4]].iter().filter_map(|&right| case.turned(right)) {
+            assert_eq!(turned.predict().unwrap()[4 * x + y], v, "{turned:?}");
+            by_turning += 1;
+        }
+    }
+    assert_eq!((given, by_turning), (14, 16), "more than half of the cases come by turning");
 }
 
 #[test]

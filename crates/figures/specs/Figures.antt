@@ -1,8 +1,9 @@
--- The worked figures that the rules mark to be proved: one table, one statement, over the definitions.
+-- The worked figures that the rules mark to be proved, and those that show where a block on its side is no more the transposed one: one table, one
+-- statement, over the definitions.
 use mathlib.Core.Path.{_≡_, refl}
 use mathlib.Core.Bool.{Bool, true, false, _&&_}
 use mathlib.Core.List.{List, [], _∷_, _++_, map}
-use Prim.Native.Nat.{ℕ}
+use Prim.Native.Nat.{ℕ, _+_, _-_, _*_}
 use lib.IntN.{ℤ, pos}
 use lib.ListN.{replicate, set}
 use Rattle.laws.specs.Range.{minus}
@@ -10,12 +11,13 @@ use Rattle.laws.specs.Table.{table, sumOf, sumZ}
 use Rattle.basics.specs.Clip.{Clip1}
 use Rattle.samples.specs.Intra16x16.{predL}
 use Rattle.samples.specs.IntraChroma.{regionDc, predC}
-use Rattle.intra_nxn.specs.IntraNxN.{predNxN, pred4x4L, filteredSide, filteredCorner, filtered}
+use Rattle.intra_nxn.specs.IntraNxN.{predNxN, pred4x4L, pred8x8L, filteredSide, filteredCorner, filtered}
 use Rattle.intra_nxn.specs.IntraNxN.{downLeft, downRight, verticalRight, horizontalDown, verticalLeft, horizontalUp}
 use Rattle.residual.specs.Inverse.{oneDimensional, rowOf, columnOf, rounded, inverse4x4}
 use Rattle.basics.specs.Near.{Near, near, mean, dc}
 use Rattle.samples.specs.PlaneMode.{slope, ramp, plane}
 use Rattle.basics.specs.Qp.{QPc, table815}
+use Rattle.turned.specs.Exchange.{onSide}
 use Rattle.macroblock.specs.Square.{placeAt, aboveOf, leftOf, cornerOf, nearBlock}
 
 -- what the definitions give, and what the rules say that they give
@@ -69,6 +71,18 @@ column x = table 16 (predL 3 true true (near (replicate 8 0 ++ replicate 8 255) 
 abbrev lone : ℤ → List ℤ
 lone v = set (replicate 16 (pos 0)) 0 v
 
+-- around an 8x8 block: above 10, 20, .., 80 and then `right`, left 12, 24, .., 96, corner 6; on its side 96 once more stands above and to the right
+abbrev wide : List ℕ → Near
+wide right = near (table 8 (λ k. 10 * (k + 1)) ++ right) (table 8 (λ k. 12 * (k + 1)) ++ 96 ∷ []) 6
+
+-- the last sample in vertical-left, and in horizontal-up on its side
+abbrev lasts : ℕ → (ℕ → Bool → Bool → Bool → Near → ℕ → ℕ → ℕ) → Near → List ℕ
+lasts n pred p = pred 7 true true true p (n - 1) (n - 1) ∷ pred 8 true true true (onSide p) (n - 1) (n - 1) ∷ []
+
+-- the last sample of the first row in vertical, and of the first column in horizontal on its side
+abbrev straight : Near → List ℕ
+straight p = pred8x8L 0 true true true p 7 0 ∷ pred8x8L 1 true true true (onSide p) 0 7 ∷ []
+
 unfoldable pub figures : List Figure
 unfolding table sumOf sumZ aboveOf leftOf cornerOf near mean dc predC regionDc predL plane ramp slope inverse4x4 columnOf rowOf oneDimensional rounded
 figures =
@@ -83,6 +97,8 @@ figures =
     ∷ inverse4x4 (lone (pos 31)) leaves replicate 16 (pos 0) ∷ inverse4x4 (lone (pos 32)) leaves replicate 16 (pos 1)
     ∷ inverse4x4 (lone (minus 32)) leaves replicate 16 (pos 0) ∷ inverse4x4 (lone (minus 33)) leaves replicate 16 (minus 1)
     ∷ (QPc 29 ∷ QPc 30 ∷ QPc 51 ∷ []) gives (29 ∷ 29 ∷ 39 ∷ [])
+    ∷ lasts 4 pred4x4L full gives (60 ∷ 40 ∷ []) ∷ lasts 8 pred8x8L (wide (80 ∷ replicate 7 160)) gives (160 ∷ 78 ∷ [])
+    ∷ straight (wide (80 ∷ [])) gives (78 ∷ 78 ∷ []) ∷ straight (wide (90 ∷ [])) gives (80 ∷ 78 ∷ [])
     ∷ []
 
 pub figures-hold : map (λ f. f .has) figures ≡ map (λ f. f .is) figures

@@ -15,7 +15,7 @@ use Rattle.basics.specs.Near.{Near, mean, dc}
 use Rattle.intra_nxn.proofs.Related.{Open, Through, related, related-filtered}
 
 -- ---- equality
-equal : Through (λ u v. u ≡ v)
+pub equal : Through (λ u v. u ≡ v)
 equal = record { by-2 = λ r s. omega arith; by-3 = λ r s t. omega arith }
 
 equal-dc : (n : ℕ) (a l c : Bool) (p q : Near) → Open (λ u v. u ≡ v) n a l c p q → dc n a l p ≡ dc n a l q
@@ -76,7 +76,7 @@ module _ (lo hi : ℕ) where
 -- ---- the promise, over the side, of a prediction from a neighbourhood that is changed in a way that follows every relation
 module _ (n : ℕ) (two : 2 ≤ n) (change : Bool → Bool → Bool → Near → Near)
     (follows : (R : ℕ → ℕ → Type 0) → Through R → (a l c : Bool) (p q : Near) → Open R n a l c p q → Open R n a l c (change a l c p) (change a l c q)) where
-  promise : LumaPromise n (λ mode a l c p. predNxN n mode a l (change a l c p))
+  pub promise : LumaPromise n (λ mode a l c p. predNxN n mode a l (change a l c p))
   unfolding predNxN dc mean
   promise =
       record {

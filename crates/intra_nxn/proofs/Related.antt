@@ -32,9 +32,9 @@ twice-first : (a b : ℕ) → mean3 a a b ≡ (3 * a + b + 2) / 4
 twice-first a b = omega arith
 
 -- Horizontal_Down is Vertical_Right with rows and columns exchanged
-pub turned : (p : Near) (x y : ℕ) → horizontalDown p x y ≡ verticalRight (λ i j. p j i) y x
+pub horizontalDown-on-side : (p : Near) (x y : ℕ) → horizontalDown p x y ≡ verticalRight (λ i j. p j i) y x
 unfolding horizontalDown verticalRight
-turned p x y = rw (turn (p 0 1) (p 0 0) (p 1 0))
+horizontalDown-on-side p x y = rw (turn (p 0 1) (p 0 0) (p 1 0))
 
 module _ (R : ℕ → ℕ → Type 0) (means : Through R) where
   pub by-13 : {a b a′ b′ : ℕ} → R a a′ → R b b′ → R ((a + 3 * b + 2) / 4) ((a′ + 3 * b′ + 2) / 4)
@@ -108,7 +108,7 @@ module _ (R : ℕ → ℕ → Type 0) (means : Through R) where
   pub in-horizontalDown : (n : ℕ) (p q : Near) → 2 ≤ n → (x y : ℕ) → x < n → y < n → ((i : ℕ) → i ≤ n → R (p i 0) (q i 0)) → ((j : ℕ) → j ≤ n → R (p 0 j) (q 0 j))
       → R (horizontalDown p x y) (horizontalDown q x y)
   in-horizontalDown n p q two x y hx hy up down =
-      rw (turned p x y, turned q x y) (in-verticalRight n (λ i j. p j i) (λ i j. q j i) two y x hy hx down up)
+      rw (horizontalDown-on-side p x y, horizontalDown-on-side q x y) (in-verticalRight n (λ i j. p j i) (λ i j. q j i) two y x hy hx down up)
 
   -- a side from the corner on
   from-0 : (k : ℕ) (f g : ℕ → ℕ) → R (f 0) (g 0) → ((i : ℕ) → 1 ≤ i → i ≤ k → R (f i) (g i)) → (i : ℕ) → i ≤ k → R (f i) (g i)

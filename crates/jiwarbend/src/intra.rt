@@ -9,8 +9,11 @@ ghost use Rattle.samples.specs.IntraChroma.{chromaDc, predC};
 ghost use Rattle.intra_nxn.specs.IntraNxN.{pred4x4L, pred8x8L};
 ghost use Rattle.basics.specs.Marks.{permittedNxN, permitted16x16, permittedChroma, predAnswer};
 ghost use Rattle.basics.specs.Near.{near, dc};
+ghost use Rattle.turned.specs.Exchange.{Any, Level};
+ghost use Rattle.turned.specs.TurnedBlock.{TurnedBlock};
 ghost use Rattle.jiwarbend.specs.Exports.{_has_};
 
+// A case turned on its side gets, in the mode's partner, the same answer and the transposed block.
 #[no_mangle]
 pub extern "C" fn jiwarbend_intra4x4_pred(
     mode: u8,
@@ -26,6 +29,7 @@ pub extern "C" fn jiwarbend_intra4x4_pred(
         8 (permittedNxN «avail_top» «avail_left» «avail_corner») mode ⌝ }
     ensures { λ r. ⌜ now (out .exit) ≡ written r (now (out .entry))
         (blockOf 4 (pred4x4L mode «avail_top» «avail_left» «avail_corner» (near (now (top .entry)) (now (left .entry)) corner))) ⌝ }
+    ensures { λ _. ⌜ TurnedBlock 4 pred4x4L Any ⌝ }
 {
     intra_nxn::intra_4x4::intra4x4_pred_into(
         mode,
@@ -39,6 +43,7 @@ pub extern "C" fn jiwarbend_intra4x4_pred(
     )
 }
 
+// The same for 8x8, where above sample 8 equals above sample 7 before the exchange and after it.
 #[no_mangle]
 pub extern "C" fn jiwarbend_intra8x8_pred(
     mode: u8,
@@ -54,6 +59,7 @@ pub extern "C" fn jiwarbend_intra8x8_pred(
         8 (permittedNxN «avail_top» «avail_left» «avail_corner») mode ⌝ }
     ensures { λ r. ⌜ now (out .exit) ≡ written r (now (out .entry))
         (blockOf 8 (pred8x8L mode «avail_top» «avail_left» «avail_corner» (near (now (top .entry)) (now (left .entry)) corner))) ⌝ }
+    ensures { λ _. ⌜ TurnedBlock 8 pred8x8L (Level 8) ⌝ }
 {
     intra_nxn::intra_8x8::intra8x8_pred_into(
         mode,

@@ -57,6 +57,11 @@ pub and-some : (a b : Bool) → a && b ≡ false → (a ≡ false) ⊎ (b ≡ fa
 and-some true b e = inr e
 and-some false b e = inl refl
 
+-- what follows from either of two tests follows from the one that holds
+pub or-either : {P : Type 0} (a b : Bool) → (a ≡ true → P) → (b ≡ true → P) → a || b ≡ true → P
+or-either true b f g e = f refl
+or-either false b f g e = g e
+
 pub both-left : (a b : Bool) → T (a && b) → T a
 both-left true b t = tt
 both-left false b t = t

@@ -1,9 +1,12 @@
 //! The port against the Rust it was ported from, call by call: answers, what was written and what was not.
 //! Inside the rules' domain the Rust's own routine says what is right; outside it, the rules' refusals do (`oracle::rules`).
 //! Every limit is drawn on both sides, every list in its own length, one short, one long and empty, and guards stand around every buffer. How
-//! often each answer was given is counted: an answer that a call can give and has not given is a failure too.
+//! often each answer was given is counted: an answer that a call can give and has not given is a failure too. What the Rust says of a 4x4 or
+//! 8x8 case is also due, transposed, of the case turned on its side.
 use harness::{good_record, good_records, shuffled, slice_map, Guarded, Memory, Random, Record};
+use jiwarbend::block;
 use jiwarbend::sys::*;
+use jiwarbend::turned::{Case, Case4x4, Case8x8};
 use oracle::rules::{self, Marks, Square};
 use oracle::{driver, predict};
 
@@ -14,18 +17,20 @@ struct Report {
     seen: [u64; 9],
 }
 
-/// The calls of one routine: which answers are due, and how often each was given.
+/// The calls of one routine: which answers are due, how often each was given, how many cases came by turning, and how many in a hundred must.
 struct Routine<'a> {
     name: &'static str,
     due: &'static [u32],
     seen: [u64; 9],
     wrong: u64,
+    turned: u64,
+    least_turned: u64,
     report: &'a mut Report,
 }
 
 impl Report {
     fn routine(&mut self, name: &'static str, due: &'static [u32]) -> Routine<'_> {
-        Routine { name, due, seen: [0; 9], wrong: 0, report: self }
+        Routine { name, due, seen: [0; 9], wrong: 0, turned: 0, least_turned: 0, report: self }
     }
 
     /// `n` cases, or fewer where a short run was asked for.
@@ -63,9 +68,15 @@ impl Drop for Routine<'_> {
         if !odd.is_empty() {
             verdict += &format!(", NOT DUE {odd:?}");
         }
+        let cases: u64 = self.seen.iter().sum();
+        let few = 100 * self.turned < self.least_turned * cases;
+        if few {
+            verdict += ", TOO FEW BY TURNING";
+        }
         let counts: Vec<String> = answers().map(|n| format!("{n}: {}", self.seen[n as usize])).collect();
-        println!("{:<24} {:>9} cases {verdict}; answers {}", self.name, self.seen.iter().sum::<u64>(), counts.join(", "));
-        if self.wrong == 0 && missing.is_empty() && odd.is_empty() {
+        let turned = if self.turned > 0 { format!(", {} of them by turning,", self.turned) } else { String::new() };
+        println!("{:<24} {cases:>9} cases{turned} {verdict}; answers {}", self.name, counts.join(", "));
+        if self.wrong == 0 && missing.is_empty() && odd.is_empty() && !few {
             self.report.passed += 1;
         } else {
             self.report.failed += 1;
@@ -108,21 +119,39 @@ fn predicted(export: Predictor, mode: u8, m: Marks, top: &[u8], left: &[u8], cor
     (answer, buffer)
 }
 
+/// How a case is turned: with samples above and to the right, and its block with it. At least so many cases in a hundred come so.
+struct Turn<const T: usize, const L: usize, const B: usize> {
+    case: fn(&Case<T, L>, [u8; L]) -> Option<Case<T, L>>,
+    block: fn(&[u8; B]) -> [u8; B],
+    least: u64,
+}
+
 fn predictor<const T: usize, const L: usize, const B: usize>(
     report: &mut Report,
     name: &'static str,
     export: Predictor,
     rust: impl Fn(u8, Marks, &[u8; T], &[u8; L], u8) -> Result<[u8; B], u32>,
+    turn: Option<Turn<T, L, B>>,
 ) {
     let rounds = report.many(60_000);
     let mut routine = report.routine(name, &[0, 2, 6, 7]);
+    routine.least_turned = turn.as_ref().map_or(0, |turn| turn.least);
     let (all, none) = (Marks { above: true, left: true, corner: true }, Marks { above: false, left: false, corner: false });
     let mut random = Random::new(name.len() as u64);
     let (mut top, mut left) = ([0; T], [0; L]);
     let one = |routine: &mut Routine, mode: u8, m: Marks, top: &[u8; T], left: &[u8; L], corner: u8| {
         let port = predicted(export, mode, m, top, left, corner, B);
-        let wanted = left_behind(B, rust(mode, m, top, left, corner));
-        routine.told(port, wanted, || format!("mode {mode}, {m:?}, top {top:?}, left {left:?}, corner {corner}"));
+        let due = rust(mode, m, top, left, corner);
+        routine.told(port, left_behind(B, due), || format!("mode {mode}, {m:?}, top {top:?}, left {left:?}, corner {corner}"));
+        // The same case on its side. Above and to the right the last sample above is repeated, or stands what stood there.
+        let Some(turn) = &turn else { return };
+        let case = Case { mode, marks: block::Marks { above: m.above, left: m.left, corner: m.corner }, top: *top, left: *left, corner };
+        for c in [[left[L - 1]; L], std::array::from_fn(|k| top[T - L + k])].into_iter().filter_map(|right| (turn.case)(&case, right)) {
+            let m = Marks { above: c.marks.above, left: c.marks.left, corner: c.marks.corner };
+            let port = predicted(export, c.mode, m, &c.top, &c.left, c.corner, B);
+            routine.told(port, left_behind(B, due.map(|b| (turn.block)(&b))), || format!("{c:?}, by turning"));
+            routine.turned += 1;
+        }
     };
     // Every mode number with every set of marks.
     for mode in 0..=255 {
@@ -145,10 +174,13 @@ fn predictor<const T: usize, const L: usize, const B: usize>(
             }
         }
     }
-    // Neighbourhoods at random.
-    for _ in 0..rounds {
+    // Neighbourhoods at random; in every second the first sample above and to the right repeats the last above, as 8x8 must have it to be turned.
+    for round in 0..rounds {
         random.samples(&mut top);
         random.samples(&mut left);
+        if turn.is_some() && round % 2 == 0 {
+            top[L] = top[L - 1];
+        }
         let corner = random.byte();
         for mode in 0..9 {
             let m = Marks::all().nth(random.below(8)).unwrap();
@@ -760,10 +792,12 @@ fn main() {
     let scale = std::env::args().nth(1).map_or(100, |s| s.parse().expect("a share in percent"));
     let mut report = Report { scale, passed: 0, failed: 0, seen: [0; 9] };
     small(&mut report);
-    predictor(&mut report, "intra4x4_pred", jiwarbend_intra4x4_pred, rules::intra4x4_pred);
-    predictor(&mut report, "intra8x8_pred", jiwarbend_intra8x8_pred, rules::intra8x8_pred);
-    predictor(&mut report, "luma16x16_pred", jiwarbend_luma16x16_pred, rules::luma16x16_pred);
-    predictor(&mut report, "chroma8x8_pred", jiwarbend_chroma8x8_pred, rules::chroma8x8_pred);
+    let turn_4x4 = Turn { case: Case4x4::turned, block: Case4x4::transposed, least: 50 };
+    let turn_8x8 = Turn { case: Case8x8::turned, block: Case8x8::transposed, least: 20 };
+    predictor(&mut report, "intra4x4_pred", jiwarbend_intra4x4_pred, rules::intra4x4_pred, Some(turn_4x4));
+    predictor(&mut report, "intra8x8_pred", jiwarbend_intra8x8_pred, rules::intra8x8_pred, Some(turn_8x8));
+    predictor(&mut report, "luma16x16_pred", jiwarbend_luma16x16_pred, rules::luma16x16_pred, None);
+    predictor(&mut report, "chroma8x8_pred", jiwarbend_chroma8x8_pred, rules::chroma8x8_pred, None);
     mean(&mut report, "luma16x16_dc", jiwarbend_luma16x16_dc, |above, beside, top, left| [predict::luma16x16_dc(above, beside, top, left)]);
     mean(&mut report, "chroma8x8_dc", jiwarbend_chroma8x8_dc, predict::chroma8x8_dc);
     from_plane(&mut report, "i16x16_luma_pred", 16, jiwarbend_i16x16_luma_pred, rules::i16x16_luma_pred);
