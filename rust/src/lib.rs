@@ -4,8 +4,8 @@
 //! nothing; and when all macroblocks of a picture have been accepted, in whatever order, the planes hold byte for byte what decoding in
 //! raster order by ITU-T H.264 gives. This crate is its safe face: it passes slices on, and turns refusals into [`Refusal`].
 //!
-//! A [`Picture`] owns planes and maps, a [`Lent`] borrows them. The routines on single blocks are in [`block`], and [`turned`] saves writers of
-//! tests half of the cases.
+//! A [`Picture`] owns planes and maps, a [`Lent`] borrows them. The routines on single blocks are in [`block`], and [`turned`] gives writers of
+//! tests a second case for each one whose mode has a partner.
 //!
 //! ```
 //! use jiwarbend::{ChromaMode, Luma16x16Mode, Picture, Record, Refusal};
