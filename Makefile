@@ -14,10 +14,13 @@
 # make diff-x86-64     make diff against the x86-64 archive under an emulator, on a machine of another kind
 # make oracle-list     the fixed list of the Rust's answers, made anew
 # make macroblock-list the fixed list of macroblocks that the Rust's routines rebuilt, made anew
+# make vector-list     the fixed list of blocks that others transformed, made anew
 #
-# ORACLE is the folder of the Rust that was ported (diff, bench and the two lists). ROUNDS is how often the benchmark times each side.
+# ORACLE is the folder of the Rust that was ported (diff, bench and the lists), VECTORS that of the blocks that others transformed (vector-list).
+# ROUNDS is how often the benchmark times each side.
 # Everything that is made stands in build/, which `make test` leaves alone.
 ORACLE ?= ../shared/docs/src
+VECTORS ?= ../shared/vectors
 CARGO ?= cargo
 CC ?= cc
 PREFIX ?= /usr/local
@@ -34,7 +37,7 @@ TIME = $(CARGO) run --profile fastest $(OF_RUST) -p harness --bin bench
 WARNINGS = -Wall -Wextra -Wpedantic -Werror
 VERSION = $(shell scripts/signatures --version)
 
-.PHONY: demo test check lib symbols languages rust-test examples diff install bench bench-docs bench-short diff-x86-64 oracle-list macroblock-list
+.PHONY: demo test check lib symbols languages rust-test examples diff install bench bench-docs bench-short diff-x86-64 oracle-list macroblock-list vector-list
 demo: $(ARCHIVE)
 	mkdir -p build/demo
 	$(RUN) -p demo build/demo/jiwarbend.png
@@ -86,6 +89,9 @@ oracle-list: $(ARCHIVE)
 
 macroblock-list: $(ARCHIVE)
 	$(RUN) -p harness --bin macroblock_list > crates/macroblocks/stdin
+
+vector-list: $(ARCHIVE)
+	$(RUN) -p harness --bin vector_list $(VECTORS) > crates/vectors/stdin
 
 install: $(ARCHIVE)
 	install -d $(DESTDIR)$(PREFIX)/include $(DESTDIR)$(PREFIX)/lib/pkgconfig

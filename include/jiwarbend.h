@@ -107,9 +107,9 @@ uint32_t jiwarbend_start(uint32_t w, uint32_t h, uint8_t *done, size_t done_len,
    kind           0 for 4x4, 1 for 8x8, 2 for 16x16 luma prediction.
    modes          16 luma modes: kind 0 uses all, in scan order, kind 1 the first four, kind 2 the first; the others are 0.
    chroma_mode    0 DC, 1 horizontal, 2 vertical, 3 plane.
-   numbers        384: luma 256, Cb 64, Cr 64. Luma of kinds 0 and 2: sixteen blocks of 16 dequantised coefficients in scan order; of kind
-                  1: four blocks of 64 residual samples. Chroma: four blocks of 16 coefficients each. All in raster order.
-                  docs/RECORDS.md draws the scan and works an example. */
+   numbers        384 dequantised coefficients: luma 256, Cb 64, Cr 64. Luma of kinds 0 and 2: sixteen blocks of 16 in scan order; of kind 1:
+                  four blocks of 64 in raster order. Chroma: four blocks of 16 each, in raster order. Inside a block coefficients are in
+                  raster order. docs/RECORDS.md draws the scan and works an example. */
 uint32_t jiwarbend_rebuild(uint32_t w, uint32_t h, uint32_t x, uint32_t y,
     uint8_t *luma, size_t luma_len, size_t luma_stride, uint8_t *cb, size_t cb_len, size_t cb_stride, uint8_t *cr, size_t cr_len, size_t cr_stride,
     uint8_t *done, size_t done_len, const uint16_t *slices, size_t slices_len, struct jiwarbend_progress *progress,
@@ -162,12 +162,13 @@ uint16_t jiwarbend_permitted_8x8(bool avail_top, bool avail_left, bool avail_cor
 uint16_t jiwarbend_permitted_16x16(bool avail_top, bool avail_left, bool avail_corner);
 uint16_t jiwarbend_permitted_chroma(bool avail_top, bool avail_left, bool avail_corner);
 
-/* ---- the 4x4 inverse and clipped sums (clause 8.5)
+/* ---- the inverse transforms and clipped sums (clause 8.5)
 
-   The answers are 0, 2 and 8. Lists have 16 elements, 64 in add_residual_8x8. */
+   The answers are 0, 2 and 8. Lists have 16 elements, 64 in inverse_8x8 and add_residual_8x8. */
 
-/* The residual of dequantised coefficients. */
+/* The residual of dequantised coefficients, both in raster order. */
 uint32_t jiwarbend_inverse_4x4(const int32_t *deq, size_t deq_len, int32_t *out, size_t out_len);
+uint32_t jiwarbend_inverse_8x8(const int32_t *deq, size_t deq_len, int32_t *out, size_t out_len);
 
 /* A prediction with the residual of coefficients, or with a residual, added and clipped to 0..255. */
 uint32_t jiwarbend_reconstruct_4x4(const int32_t *deq, size_t deq_len, const int32_t *pred, size_t pred_len, uint8_t *out, size_t out_len);

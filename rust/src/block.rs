@@ -1,5 +1,5 @@
-//! The routines on single blocks: intra prediction (clause 8.3), the 4x4 inverse transform and clipped sums (clause 8.5), and the small
-//! tables beside them. A mode is a number, so that any may be tried; [`LumaMode`](crate::LumaMode) and its companions give the numbers names.
+//! The routines on single blocks: intra prediction (clause 8.3), the inverse transforms and clipped sums (clause 8.5), and the small tables
+//! beside them. A mode is a number, so that any may be tried; [`LumaMode`](crate::LumaMode) and its companions give the numbers names.
 //!
 //! A routine that returns an error has written nothing. Every `unsafe` block here passes slices and arrays as pointers with their lengths,
 //! which is all that the C functions ask for.
@@ -166,6 +166,30 @@ pub fn chroma8x8_plane_pred(mode: u8, pred: &mut [u8], rec: &[u8], base: usize, 
 pub fn inverse_4x4(deq: &[i32; 16]) -> Result<[i32; 16], Refusal> {
     let mut out = [0; 16];
     let answer = unsafe { sys::jiwarbend_inverse_4x4(deq.as_ptr(), deq.len(), out.as_mut_ptr(), out.len()) };
+    Refusal::check(answer).map(|()| out)
+}
+
+/// The residual of 64 dequantised coefficients (8.5.13.2). Both are in raster order.
+///
+/// ```
+/// use jiwarbend::block::inverse_8x8;
+///
+/// // The first coefficient moves all 64 samples by a sixty-fourth of it, the second moves the columns.
+/// let mut deq = [0; 64];
+/// deq[0] = 640;
+/// deq[1] = 128;
+/// let residual = inverse_8x8(&deq)?;
+/// assert_eq!(residual[..8], [13, 13, 12, 11, 9, 9, 8, 7]);
+/// assert!(residual.chunks(8).all(|row| row == &residual[..8]));
+/// # Ok::<(), jiwarbend::Refusal>(())
+/// ```
+///
+/// # Errors
+///
+/// [`Refusal::Range`] for a number outside -32768..=32767.
+pub fn inverse_8x8(deq: &[i32; 64]) -> Result<[i32; 64], Refusal> {
+    let mut out = [0; 64];
+    let answer = unsafe { sys::jiwarbend_inverse_8x8(deq.as_ptr(), deq.len(), out.as_mut_ptr(), out.len()) };
     Refusal::check(answer).map(|()| out)
 }
 

@@ -11,9 +11,9 @@ pub struct Record {
     pub modes: [u8; 16],
     /// The chroma mode: the number of a [`ChromaMode`].
     pub chroma_mode: u8,
-    /// 256 numbers for luma, 64 for Cb, 64 for Cr. Luma: sixteen blocks of coefficients in scan order for kinds 0 and 2, four
-    /// blocks of 64 residual samples for kind 1. Chroma: four blocks of coefficients for each plane. Coefficients and samples are in
-    /// raster order, and lie in -32768..=32767.
+    /// 256 coefficients for luma, 64 for Cb, 64 for Cr, dequantised and in -32768..=32767. Luma: sixteen blocks of 16 in scan order for kinds
+    /// 0 and 2, four blocks of 64 in raster order for kind 1. Chroma: four blocks of 16 in raster order for each plane. Inside a block
+    /// coefficients are in raster order.
     pub numbers: [i32; 384],
 }
 

@@ -146,6 +146,7 @@ extern "C" {
     ) -> u32;
 
     pub fn jiwarbend_inverse_4x4(deq: *const i32, deq_len: usize, out: *mut i32, out_len: usize) -> u32;
+    pub fn jiwarbend_inverse_8x8(deq: *const i32, deq_len: usize, out: *mut i32, out_len: usize) -> u32;
     pub fn jiwarbend_reconstruct_4x4(
         deq: *const i32,
         deq_len: usize,

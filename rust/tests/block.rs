@@ -77,7 +77,7 @@ fn dc_alone_is_the_mode() {
 }
 
 #[test]
-fn figures_of_the_inverse() {
+fn figures_of_the_4x4_inverse() {
     let residual = |places: &[(usize, i32)]| {
         let mut c = [0; 16];
         places.iter().for_each(|&(k, v)| c[k] = v);
@@ -87,6 +87,38 @@ fn figures_of_the_inverse() {
     assert_eq!(residual(&[(0, 31), (5, 1)]), wanted);
     for (c, r) in [(31, 0), (32, 1), (-32, 0), (-33, -1)] {
         assert_eq!(residual(&[(0, c)]), [r; 16]);
+    }
+}
+
+#[test]
+fn figures_of_the_8x8_inverse() {
+    let alone = |place: usize, v: i32| {
+        let mut c = [0; 64];
+        c[place] = v;
+        inverse_8x8(&c)
+    };
+    for (c, r) in [(64, 1), (31, 0), (32, 1), (-32, 0), (-33, -1), (32767, 512), (-32768, -512)] {
+        assert_eq!(alone(0, c), Ok([r; 64]));
+    }
+    // Row 1, column 5. The columns before the rows, or rounding towards 0, would give other residuals.
+    let wanted = [
+        [3, -6, 1, 5, -5, -1, 6, -3],
+        [3, -5, 1, 4, -4, -1, 5, -2],
+        [2, -3, 1, 2, -2, -1, 3, -1],
+        [1, -1, 0, 1, -1, 0, 1, -1],
+        [-1, 2, 0, -1, 1, 0, -1, 1],
+        [-1, 3, -1, -2, 2, 1, -3, 2],
+        [-2, 5, -1, -4, 4, 1, -5, 3],
+        [-3, 6, -1, -5, 5, 1, -6, 3],
+    ];
+    assert_eq!(alone(13, 170), Ok(std::array::from_fn(|k| wanted[k / 8][k % 8])));
+    for place in 0..64 {
+        for v in [32768, -32769, i32::MIN, i32::MAX] {
+            assert_eq!(alone(place, v), Err(Refusal::Range), "{v} at place {place}");
+        }
+        for v in [32767, -32768] {
+            assert!(alone(place, v).is_ok(), "{v} at place {place}");
+        }
     }
 }
 

@@ -12,7 +12,7 @@ impl Numbers {
     }
 }
 
-/// An acceptable record for any place: DC prediction, and some coefficients or residual samples.
+/// An acceptable record for any place: DC prediction, and some coefficients.
 fn record(numbers: &mut Numbers) -> Record {
     let mut r = Record { kind: numbers.below(3) as u8, ..Record::default() };
     let used = [16, 4, 1][r.kind as usize];
@@ -234,6 +234,31 @@ fn padding_is_left_alone_and_counts_follow() {
             assert!(row[..width].iter().all(|&v| v == 128));
             assert!(row[width..].iter().all(|&v| v == 7));
         }
+    }
+}
+
+#[test]
+fn an_8x8_macroblock_has_four_blocks_of_coefficients() {
+    let mut record = Record::of_8x8([LumaMode::Dc; 4], ChromaMode::Dc);
+    // Block 3: all samples by 10, and the columns by coefficient 1. The blocks before it stay as they are predicted, and it is predicted from them.
+    (record.numbers[192], record.numbers[193]) = (640, 128);
+    let mut picture = Picture::new(1, 1).unwrap();
+    picture.rebuild(0, 0, &record).unwrap();
+    for (y, row) in picture.luma().rows().enumerate() {
+        assert_eq!(row[..8], [128; 8]);
+        assert_eq!(row[8..], if y < 8 { [128; 8] } else { [141, 141, 140, 139, 137, 137, 136, 135] });
+    }
+    // Sums are clipped.
+    record.numbers[192] = 32767;
+    picture.start();
+    picture.rebuild(0, 0, &record).unwrap();
+    assert!(picture.luma().rows().skip(8).all(|row| row[8..] == [255; 8]));
+    // A number out of range is refused at either end of the four blocks.
+    for place in [0, 255] {
+        let mut wide = record.clone();
+        wide.numbers[place] = -32769;
+        picture.start();
+        assert_eq!(picture.rebuild(0, 0, &wide), Err(Refusal::Range));
     }
 }
 

@@ -332,20 +332,30 @@ fn predictions_from_a_plane() {
 }
 
 #[test]
-fn the_inverse_and_sums() {
-    let inverse = |v: i32, len: usize, out: usize| {
-        let (deq, out) = (ReadOnly::new(&vec![v; len]), ReadOnly::new(&vec![7i32; out]));
-        move || unsafe { jiwarbend_inverse_4x4(deq.at(), deq.len(), out.at(), out.len()) }
-    };
-    for wrong in wrong_lengths(16) {
-        refused("inverse_4x4", 2, inverse(1, wrong, 16));
-        refused("inverse_4x4", 2, inverse(1, 16, wrong));
+fn inverses() {
+    type Inverse = unsafe extern "C" fn(*const i32, usize, *mut i32, usize) -> u32;
+    let exports: [(&str, Inverse, usize); 2] = [("inverse_4x4", jiwarbend_inverse_4x4, 16), ("inverse_8x8", jiwarbend_inverse_8x8, 64)];
+    for (name, export, n) in exports {
+        let call = |numbers: &[i32], out: usize| {
+            let (deq, out) = (ReadOnly::new(numbers), ReadOnly::new(&vec![7i32; out]));
+            move || unsafe { export(deq.at(), deq.len(), out.at(), out.len()) }
+        };
+        for wrong in wrong_lengths(n) {
+            refused(name, 2, call(&vec![1; wrong], n));
+            refused(name, 2, call(&vec![1; n], wrong));
+        }
+        // A number out of range at each place, the last too: all before it are in range.
+        for (place, v) in (0..n).flat_map(|place| [(place, 32768), (place, -32769)]) {
+            let mut numbers = vec![1; n];
+            numbers[place] = v;
+            refused(name, 8, call(&numbers, n));
+        }
+        accepted(name, call(&vec![1; n], n));
     }
-    for v in [32768, -32769] {
-        refused("inverse_4x4", 8, inverse(v, 16, 16));
-    }
-    accepted("inverse_4x4", inverse(1, 16, 16));
+}
 
+#[test]
+fn sums() {
     type Sums = unsafe extern "C" fn(*const i32, usize, *const i32, usize, *mut u8, usize) -> u32;
     let exports: [(&str, Sums, usize); 3] = [
         ("reconstruct_4x4", jiwarbend_reconstruct_4x4, 16),

@@ -1,16 +1,15 @@
-//! A picture as an encoder codes it and another decoder shows it: the library makes the same samples of it, in any order.
+//! Pictures as an encoder codes them and another decoder shows them: the library makes the same samples of them, in any order.
 mod store;
 
 use jiwarbend::{Picture, Record, Refusal};
 
-#[test]
-fn a_coded_picture_has_the_samples_of_another_decoder() {
-    let pictured = store::read(include_bytes!("data/bars_q30_baseline.rmb1"));
-    let wanted: &[u8] = include_bytes!("data/bars_q30_baseline.yuv");
+/// Rebuilds a picture of so many macroblocks of 4x4, 8x8 and 16x16 prediction, and compares its samples with the other decoder's.
+fn has_the_samples(file: &[u8], wanted: &[u8], kinds: [usize; 3]) {
+    let pictured = store::read(file);
     let records: Vec<Record> =
         pictured.records.into_iter().map(|(kind, modes, chroma_mode, numbers)| Record { kind, modes, chroma_mode, numbers }).collect();
     let of_kind = |kind| records.iter().filter(|r| r.kind == kind).count();
-    assert_eq!([of_kind(0), of_kind(1), of_kind(2)], [51, 0, 345]);
+    assert_eq!([of_kind(0), of_kind(1), of_kind(2)], kinds);
 
     let mut picture = Picture::with_slices(pictured.w, pictured.h, pictured.slices).unwrap();
     // Every seventh macroblock comes first, and from the last to the first.
@@ -29,4 +28,14 @@ fn a_coded_picture_has_the_samples_of_another_decoder() {
     assert!(picture.is_finished());
     let got: Vec<u8> = [picture.luma(), picture.cb(), picture.cr()].iter().flat_map(|p| p.rows().flatten().copied()).collect();
     assert!(got == wanted, "{} samples differ", got.iter().zip(wanted).filter(|(a, b)| a != b).count());
+}
+
+#[test]
+fn a_picture_of_two_kinds() {
+    has_the_samples(include_bytes!("data/bars_q30_baseline.rmb1"), include_bytes!("data/bars_q30_baseline.yuv"), [51, 0, 345]);
+}
+
+#[test]
+fn a_picture_of_three_kinds() {
+    has_the_samples(include_bytes!("data/fractal_q27.rmb1"), include_bytes!("data/fractal_q27.yuv"), [81, 18, 297]);
 }

@@ -1,5 +1,5 @@
--- The worked figures that the rules mark to be proved, and those that show where a block on its side is no more the transposed one: one table, one
--- statement, over the definitions.
+-- The worked figures that the rules mark to be proved, those of the 8x8 inverse, and those that show where a block on its side is no more the transposed
+-- one: one table, one statement, over the definitions.
 use mathlib.Core.Path.{_≡_, refl}
 use mathlib.Core.Bool.{Bool, true, false, _&&_}
 use mathlib.Core.List.{List, [], _∷_, _++_, map}
@@ -14,6 +14,7 @@ use Rattle.samples.specs.IntraChroma.{regionDc, predC}
 use Rattle.intra_nxn.specs.IntraNxN.{predNxN, pred4x4L, pred8x8L, filteredSide, filteredCorner, filtered}
 use Rattle.intra_nxn.specs.IntraNxN.{downLeft, downRight, verticalRight, horizontalDown, verticalLeft, horizontalUp}
 use Rattle.residual.specs.Inverse.{oneDimensional, rowOf, columnOf, rounded, inverse4x4}
+use Rattle.transform_8x8.specs.Inverse8x8.{firstStep, secondStep, thirdStep, eRow, fRow, gRow, hColumn, kColumn, mColumn, inverse8x8}
 use Rattle.basics.specs.Near.{Near, near, mean, dc}
 use Rattle.samples.specs.PlaneMode.{slope, ramp, plane}
 use Rattle.basics.specs.Qp.{QPc, table815}
@@ -71,6 +72,17 @@ column x = table 16 (predL 3 true true (near (replicate 8 0 ++ replicate 8 255) 
 abbrev lone : ℤ → List ℤ
 lone v = set (replicate 16 (pos 0)) 0 v
 
+-- one coefficient of an 8x8 block, at place k
+abbrev lone8x8 : ℕ → ℤ → List ℤ
+lone8x8 k v = set (replicate 64 (pos 0)) k v
+
+-- a row of residuals that falls through 0, and one that rises
+abbrev falls : ℕ → ℕ → ℕ → ℕ → List ℤ
+falls a b c d = pos a ∷ pos b ∷ pos c ∷ pos d ∷ minus d ∷ minus c ∷ minus b ∷ minus a ∷ []
+
+abbrev rises : ℕ → ℕ → ℕ → ℕ → List ℤ
+rises a b c d = minus a ∷ minus b ∷ minus c ∷ minus d ∷ pos d ∷ pos c ∷ pos b ∷ pos a ∷ []
+
 -- around an 8x8 block: above 10, 20, .., 80 and then `right`, left 12, 24, .., 96, corner 6; on its side 96 once more stands above and to the right
 abbrev wide : List ℕ → Near
 wide right = near (table 8 (λ k. 10 * (k + 1)) ++ right) (table 8 (λ k. 12 * (k + 1)) ++ 96 ∷ []) 6
@@ -96,6 +108,10 @@ figures =
     ∷ inverse4x4 (set (lone (pos 31)) 5 (pos 1)) leaves set (set (lone (pos 1)) 11 (pos 1)) 15 (pos 1)
     ∷ inverse4x4 (lone (pos 31)) leaves replicate 16 (pos 0) ∷ inverse4x4 (lone (pos 32)) leaves replicate 16 (pos 1)
     ∷ inverse4x4 (lone (minus 32)) leaves replicate 16 (pos 0) ∷ inverse4x4 (lone (minus 33)) leaves replicate 16 (minus 1)
+    ∷ inverse8x8 (lone8x8 0 (pos 64)) leaves replicate 64 (pos 1)
+    ∷ inverse8x8 (lone8x8 0 (pos 31)) leaves replicate 64 (pos 0) ∷ inverse8x8 (lone8x8 0 (minus 33)) leaves replicate 64 (minus 1)
+    ∷ inverse8x8 (lone8x8 9 (pos 91))
+    leaves (falls 3 3 2 1 ++ falls 3 2 1 1 ++ falls 2 1 1 0 ++ falls 1 1 0 0 ++ rises 1 1 0 0 ++ rises 2 1 1 0 ++ rises 3 2 1 1 ++ rises 3 3 2 1)
     ∷ (QPc 29 ∷ QPc 30 ∷ QPc 51 ∷ []) gives (29 ∷ 29 ∷ 39 ∷ [])
     ∷ lasts 4 pred4x4L full gives (60 ∷ 40 ∷ []) ∷ lasts 8 pred8x8L (wide (80 ∷ replicate 7 160)) gives (160 ∷ 78 ∷ [])
     ∷ straight (wide (80 ∷ [])) gives (78 ∷ 78 ∷ []) ∷ straight (wide (90 ∷ [])) gives (80 ∷ 78 ∷ [])
@@ -103,4 +119,5 @@ figures =
 
 pub figures-hold : map (λ f. f .has) figures ≡ map (λ f. f .is) figures
 unfolding figures predNxN downLeft downRight verticalRight horizontalDown verticalLeft horizontalUp filteredSide filteredCorner filtered Clip1 QPc table815
+    firstStep secondStep thirdStep eRow fRow gRow hColumn kColumn mColumn inverse8x8
 figures-hold = refl

@@ -68,6 +68,12 @@ fn coefficient(v: i32) -> u32 {
     residual::inverse::inverse_4x4(&deq).answer
 }
 
+fn coefficient_8x8(v: i32) -> u32 {
+    let mut deq = [0i32; 64];
+    deq[63] = v;
+    transform_8x8::inverse::inverse_8x8(&deq).answer
+}
+
 fn residual(v: i32) -> u32 {
     let mut res = [0i32; 64];
     res[63] = v;
@@ -93,6 +99,10 @@ pub(crate) fn numbers() {
     tell(b"inverse_4x4, coefficient 32768", coefficient(32768));
     tell(b"inverse_4x4, coefficient -32768", coefficient(-32768));
     tell(b"inverse_4x4, coefficient -32769", coefficient(-32769));
+    tell(b"inverse_8x8, coefficient 32767", coefficient_8x8(32767));
+    tell(b"inverse_8x8, coefficient 32768", coefficient_8x8(32768));
+    tell(b"inverse_8x8, coefficient -32768", coefficient_8x8(-32768));
+    tell(b"inverse_8x8, coefficient -32769", coefficient_8x8(-32769));
     tell(b"add_residual_8x8, residual 32767", residual(32767));
     tell(b"add_residual_8x8, residual 32768", residual(32768));
     tell(b"add_residual_4x4, prediction -32768", prediction(-32768));

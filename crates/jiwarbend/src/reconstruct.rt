@@ -1,4 +1,4 @@
-// The 4x4 inverse transform and clipped sums (clause 8.5), in lists and in lent planes.
+// The inverse transforms and clipped sums (clause 8.5), in lists and in lent planes.
 ghost use mathlib.Core.Path.{_≡_};
 ghost use mathlib.Core.Bool.{true};
 ghost use lib.Dec.{eqb};
@@ -6,14 +6,26 @@ ghost use lib.ListN.{length, replicate};
 ghost use Rattle.laws.specs.Answer.{written};
 ghost use Rattle.residual.specs.Inverse.{inverse4x4, inverseAnswer};
 ghost use Rattle.residual.specs.Numbers.{inRange, allInRange};
+ghost use Rattle.transform_8x8.specs.Bounds.{Bounds};
+ghost use Rattle.transform_8x8.specs.Inverse8x8.{inverse8x8};
 ghost use Rattle.residual.specs.Reconstruct.{sums, putSquare, sumIn, intoAnswer, sumsAnswer};
 
 #[no_mangle]
 pub extern "C" fn jiwarbend_inverse_4x4(deq: &[i32], out: &mut [i32]) -> u32
-    ensures { λ r. ⌜ r ≡ inverseAnswer (now (deq .entry)) (length (now (out .entry))) ⌝ }
+    ensures { λ r. ⌜ r ≡ inverseAnswer 16 (now (deq .entry)) (length (now (out .entry))) ⌝ }
     ensures { λ r. ⌜ now (out .exit) ≡ written r (now (out .entry)) (inverse4x4 (now (deq .entry))) ⌝ }
 {
     residual::inverse::inverse_4x4_list(deq, out)
+}
+
+// Where it answers 0, no number on the way to the residuals leaves 32 bits.
+#[no_mangle]
+pub extern "C" fn jiwarbend_inverse_8x8(deq: &[i32], out: &mut [i32]) -> u32
+    ensures { λ r. ⌜ r ≡ inverseAnswer 64 (now (deq .entry)) (length (now (out .entry))) ⌝ }
+    ensures { λ r. ⌜ now (out .exit) ≡ written r (now (out .entry)) (inverse8x8 (now (deq .entry))) ⌝ }
+    ensures { λ r. ⌜ (r ≡ 0 → Bounds (now (deq .entry))) ⌝ }
+{
+    transform_8x8::inverse::inverse_8x8_list(deq, out)
 }
 
 #[no_mangle]

@@ -1,6 +1,7 @@
 -- The laws that every crate's proofs cite.
 pub mod Answers
 pub mod Blocks
+pub mod Blockwise
 pub mod Columns
 pub mod Digits
 pub mod Ints

@@ -3,7 +3,8 @@ use mathlib.Core.Bool.{Bool, true, _&&_}
 use mathlib.Core.List.{List, [], _∷_, _++_}
 use Prim.Native.Nat.{ℕ, zero, suc, _+_, _*_, _/_, _%_}
 use lib.IntN.{ℤ, pos, _+ℤ_}
-use lib.ListN.{drop}
+use lib.ListN.{length, drop}
+use Rattle.laws.specs.Range.{at}
 
 -- f 0, f 1, .., f (n - 1)
 unfoldable pub table : {A : Type 0} → ℕ → (ℕ → A) → List A
@@ -17,6 +18,10 @@ blockOf n f = table (n * n) (λ k. f (k % n) (k / n))
 -- a list with its first k places put anew: f 0, f 1, .., f (k - 1), and then what it held
 abbrev pub onto : {A : Type 0} → ℕ → (ℕ → A) → List A → List A
 onto k f l = table k f ++ drop k l
+
+-- what f makes of each n numbers of a list, where those stand
+abbrev pub blockwise : ℕ → (List ℤ → List ℤ) → List ℤ → List ℤ
+blockwise n f l = table (length l) (λ i. at (f (table n (λ k. at l (i / n * n + k)))) (i % n))
 
 -- f 0 + f 1 + .. + f (n - 1), of numbers and of signed numbers
 unfoldable pub sumOf : ℕ → (ℕ → ℕ) → ℕ

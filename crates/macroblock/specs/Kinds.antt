@@ -1,5 +1,5 @@
--- The decoding of an intra macroblock by its kind: prediction by 8.3.1 (kind 0, 4x4), 8.3.2 (1, 8x8), 8.3.3 (2, 16x16) and 8.3.4 (chroma), residuals by 8.5.1,
--- 8.5.2 and 8.5.4, and their sum by 8.5.14.
+-- The decoding of an intra macroblock by its kind: prediction by 8.3.1 (kind 0, 4x4), 8.3.2 (1, 8x8), 8.3.3 (2, 16x16) and 8.3.4 (chroma), residuals by 8.5.1
+-- to 8.5.4, and their sum by 8.5.14.
 use mathlib.Core.Bool.{Bool}
 use mathlib.Core.List.{List}
 use Prim.Native.Nat.{ℕ, zero, suc, _+_, _*_, _/_, _%_}
@@ -12,6 +12,7 @@ use Rattle.samples.specs.Intra16x16.{predL}
 use Rattle.samples.specs.IntraChroma.{predC}
 use Rattle.intra_nxn.specs.IntraNxN.{pred4x4L, pred8x8L}
 use Rattle.residual.specs.Inverse.{inverse4x4}
+use Rattle.transform_8x8.specs.Inverse8x8.{inverse8x8}
 use Rattle.basics.specs.Near.{Near}
 use Rattle.basics.specs.Nnz.{blkIdx}
 use Rattle.maps.specs.Neighbours.{Side}
@@ -25,18 +26,22 @@ abbrev pub recordOf : ℕ → List ℕ → ℕ → List ℤ → Record
 recordOf kind modes chroma numbers = record { kind = kind; modes = modes; «chroma_mode» = chroma; numbers = numbers }
 
 -- ---- residuals, from a record's numbers
--- of coefficient block b: sixteen for luma in scan order, then four for Cb and four for Cr
+-- of 4x4 coefficient block b: sixteen for luma in scan order, then four for Cb and four for Cr
 unfoldable pub residual4x4 : List ℤ → ℕ → ℕ → ℕ → ℤ
 residual4x4 numbers b x y = at (inverse4x4 (table 16 (λ i. at numbers (16 * b + i)))) (4 * y + x)
+
+-- of 8x8 coefficient block k: four for the luma of kind 1
+unfoldable pub residual8x8 : List ℤ → ℕ → ℕ → ℕ → ℤ
+residual8x8 numbers k x y = at (inverse8x8 (table 64 (λ i. at numbers (64 * k + i)))) (8 * y + x)
 
 -- of a larger block whose pieces are the coefficient blocks from b on
 abbrev pub residualIn : List ℤ → ℕ → ℕ → ℕ → ℤ
 residualIn numbers b x y = residual4x4 numbers (b + blkIdx (x / 4) (y / 4)) (x % 4) (y % 4)
 
--- of luma block k, by kind. Kind 1 brings residuals that are already transformed
+-- of luma block k, by kind
 abbrev pub residualL : ℕ → List ℤ → ℕ → ℕ → ℕ → ℤ
 residualL zero numbers k x y = residual4x4 numbers k x y
-residualL (suc zero) numbers k x y = at numbers (64 * k + (y * 8 + x))
+residualL (suc zero) numbers k x y = residual8x8 numbers k x y
 residualL (suc (suc _)) numbers k x y = residualIn numbers 0 x y
 
 -- ---- luma, by kind

@@ -17,7 +17,7 @@ mod cut; // 6.4: where blocks stand and which of their sides are there
 mod planes; // the square of each plane, block by block
 mod predict; // 8.3: predictions
 mod put; // 8.5.14: sums
-mod residuals; // 8.5.1, 8.5.2 and 8.5.4: residuals, and refusal 8
+mod residuals; // 8.5.1 to 8.5.4: residuals, and refusal 8
 mod rules; // refusals 2, 6 and 7
 pub mod scan_xy; // 6.4.3: the order of the luma blocks
 

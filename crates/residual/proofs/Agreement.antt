@@ -34,7 +34,7 @@ lone-passes v e = and-of e refl
 rounded-passes : (v : ℤ) → inRange v ≡ true → inRange (rounded v) ≡ true
 rounded-passes v e =
     within-in-range (rounded v)
-    (within-more 16384 32767 (rounded v) (rounded-small v (within-more 32768 524288 v (in-range-within v e) tt)) tt)
+    (rounded-small 32767 v (within-more 32768 2097088 v (in-range-within v e) tt))
 
 module _ (pred : List ℕ) (predOff predStride : ℕ) where
   bytes-pass : ((i : ℕ) → getD pred i 0 < 256) → allInRange (blockOf 4 (λ x y. pos (square pred predOff predStride x y))) ≡ true

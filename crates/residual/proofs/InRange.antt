@@ -6,15 +6,17 @@ use Prim.Native.Nat.{ℕ, zero, suc, _+_, _<_, _≤_}
 use native.Mathlib.Numerals.{add-one}
 use native.Mathlib.Omega.{arith}
 use borrow.Author.Tests.{le-leb, leb-true}
+use borrow.Rule.Slice.PartMut.{midOf}
 use lib.Dec.{leb}
 use lib.IntN.{ℤ, pos, negsuc}
-use lib.ListN.{length}
+use lib.ListN.{length, drop, length-take}
 use lib.Signed.{leZ, ltZ}
 use mir.Facts.{toZ-ofZ}
 use mir.Syntax.{w16, w32}
 use mir.Val.{SFits, toZ, ofZ}
 use Rattle.laws.specs.Range.{Within, AllWithin, at, minus}
 use Rattle.laws.specs.Table.{allBelow}
+use Rattle.laws.proofs.Stretches.{part-at}
 use Rattle.laws.proofs.Ints.{up, dn, lt-parts, ge-parts}
 use Rattle.laws.proofs.Tests as tests
 use Rattle.laws.proofs.Tests.{true-T, T-true, not-both, same-test, and-left, and-right, and-of, and-no, both-left, both-right, both-of, choose, all-of}
@@ -54,6 +56,10 @@ pub all-true : (s : List ℤ) → ((k : ℕ) → k < length s → inRange (at s 
 unfolding allInRange
 all-true [] h = refl
 all-true (z ∷ s) h = rw (h 0 (omega arith), all-true s (λ k l. h (suc k) (omega arith)))
+
+-- a part of such a list
+pub part-in-range : (a n : ℕ) (s : List ℤ) → allInRange s ≡ true → allInRange (midOf a n s) ≡ true
+part-in-range a n s e = all-true (midOf a n s) (λ k h. ap inRange (part-at (pos 0) s a n k (omega (arith, length-take n (drop a s)))) ∙ all-at s (a + k) e)
 
 pub all-false : (s : List ℤ) (k : ℕ) → inRange (at s k) ≡ false → allInRange s ≡ false
 unfolding inRange allInRange

@@ -9,8 +9,8 @@ use borrow.Author.Tests.{eq-eqb, eqb-true, le-leb, leb-true}
 use lib.Dec.{eqb, leb}
 use lib.IntN.{ℤ}
 use lib.ListN.{length}
-use Rattle.laws.specs.Answer.{_unless_, answer}
-use Rattle.laws.proofs.Answers.{passes}
+use Rattle.laws.specs.Answer.{_unless_, answer, written}
+use Rattle.laws.proofs.Answers.{passes, holds, put}
 use Rattle.laws.proofs.Tests.{and-left, and-right, and-both, and-of}
 use Rattle.residual.specs.Inverse.{inverseAnswer}
 use Rattle.residual.specs.Numbers.{allInRange}
@@ -77,8 +77,8 @@ summable n a b m e =
 pub sums-array : (n : ℕ) (a b : List ℤ) → n ≤ 64 → length a ≡ n → length b ≡ n → sumsAnswer n a b n ≡ answer (8 unless (allInRange a && allInRange b) ∷ [])
 sums-array n a b h e f = rw (le-leb n 64 h, eq-eqb (length a) n e, eq-eqb (length b) n f, eq-eqb n n refl)
 
-pub inverse-array : (d : List ℤ) → length d ≡ 16 → inverseAnswer d 16 ≡ answer (8 unless allInRange d ∷ [])
-inverse-array d e = rw (eq-eqb (length d) 16 e)
+pub inverse-array : (n : ℕ) (d : List ℤ) → length d ≡ n → inverseAnswer n d n ≡ answer (8 unless allInRange d ∷ [])
+inverse-array n d e = rw (eq-eqb (length d) n e, eq-eqb n n refl)
 
 -- the answer for the blocks of a list, where one block is asked for
 pub one-block : (n : ℕ) (t : Bool) → answer (2 unless eqb (n % 16) 0 ∷ 2 unless eqb n 16 ∷ 8 unless t ∷ []) ≡ answer (2 unless eqb n 16 ∷ 8 unless t ∷ [])
@@ -91,3 +91,8 @@ one-block n t = go (eqb n 16) refl
         both : (b : Bool) → cond {A = ℕ} b 2 2 ≡ 2
         both true = refl
         both false = refl
+
+-- a list copied into one of its own length
+pub copied : {r : ℕ} {out : List ℤ} (l old : List ℤ) → length l ≡ length old → r ≡ answer (2 unless eqb (length l) (length old) ∷ []) → out ≡ written r old l
+    → (r ≡ 0) × (out ≡ l)
+copied l old e a w = let z = a ∙ holds 2 [] (eq-eqb (length l) (length old) e) in (z, w ∙ put old l z)

@@ -1,13 +1,13 @@
 -- The transformation of residual 4x4 blocks, clause 8.5.12.2: rows, then columns, then rounding. `shrZ z (2 ^ n)` is z >> n, which rounds down.
 use mathlib.Core.List.{List, [], _∷_}
-use Prim.Native.Nat.{ℕ, _+_, _*_, _/_, _%_}
+use Prim.Native.Nat.{ℕ, _+_, _*_, _%_}
 use lib.Dec.{eqb}
 use lib.IntN.{ℤ, pos, _+ℤ_, _-ℤ_}
 use lib.ListN.{length}
 use lib.Signed.{shrZ}
 use Rattle.laws.specs.Answer.{_unless_, answer}
 use Rattle.laws.specs.Range.{at}
-use Rattle.laws.specs.Table.{table, blockOf}
+use Rattle.laws.specs.Table.{blockOf}
 use Rattle.residual.specs.Numbers.{allInRange}
 
 -- the one-dimensional transformation of four numbers, of a row and of a column
@@ -35,10 +35,11 @@ rounded h = shrZ (h +ℤ pos 32) 64
 unfoldable pub inverse4x4 : List ℤ → List ℤ
 inverse4x4 d = blockOf 4 (λ j i. rounded (at (columnOf d j) i))
 
--- the residuals of each sixteen numbers of a list, where those stand
-abbrev pub inverseBlocks : List ℤ → List ℤ
-inverseBlocks l = table (length l) (λ i. at (inverse4x4 (table 16 (λ k. at l (i / 16 * 16 + k)))) (i % 16))
+-- ---- what the calls answer
+-- one that puts the residuals of a block of n coefficients into a list: 2 for another length, 8 for a number out of range
+abbrev pub inverseAnswer : ℕ → List ℤ → ℕ → ℕ
+inverseAnswer n d places = answer (2 unless eqb (length d) n ∷ 2 unless eqb places n ∷ 8 unless allInRange d ∷ [])
 
--- the answer of a call that puts the residuals of one block into a list: 2 for another length, 8 for a number out of range
-abbrev pub inverseAnswer : List ℤ → ℕ → ℕ
-inverseAnswer d places = answer (2 unless eqb (length d) 16 ∷ 2 unless eqb places 16 ∷ 8 unless allInRange d ∷ [])
+-- one that puts those of each n numbers of a list
+abbrev pub blocksAnswer : ℕ → List ℤ → ℕ → ℕ
+blocksAnswer n l places = answer (2 unless eqb (length l % n) 0 ∷ 2 unless eqb (length l) places ∷ 8 unless allInRange l ∷ [])

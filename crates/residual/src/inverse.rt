@@ -3,16 +3,16 @@ ghost use mathlib.Core.Path.{_≡_};
 ghost use mathlib.Core.Bool.{true};
 ghost use mathlib.Core.List.{List, [], _∷_, _++_, map};
 ghost use Prim.Native.Nat.{ℕ, _+_, _*_, _%_, _≤_, _<_};
-ghost use lib.Dec.{eqb};
 ghost use lib.IntN.{ℤ, pos};
 ghost use lib.ListN.{length, drop, replicate};
 ghost use Rattle.laws.specs.Answer.{_unless_, answer, written};
 ghost use Rattle.laws.specs.Range.{Within, AllWithin, at};
-ghost use Rattle.laws.specs.Table.{onto};
-ghost use Rattle.residual.specs.Inverse.{oneDimensional, rowOf, rounded, inverse4x4, inverseBlocks, inverseAnswer};
+ghost use Rattle.laws.specs.Table.{onto, blockwise};
+ghost use Rattle.residual.specs.Inverse.{oneDimensional, rowOf, rounded, inverse4x4, inverseAnswer, blocksAnswer};
 ghost use Rattle.residual.specs.Numbers.{allInRange};
 ghost use Rattle.residual.specs.inner.Sums.{placeIn};
 use super::numbers::all_in_range;
+use super::numbers::widen_all;
 
 pub struct Residual4x4 {
     pub answer: u32,
@@ -31,7 +31,7 @@ pub fn inverse_4x4(deq: &[i32; 16]) -> Residual4x4
 
 // The same over lists, the residuals put into lent memory.
 pub fn inverse_4x4_list(deq: &[i32], out: &mut [i32]) -> u32
-    ensures { λ r. ⌜ r ≡ inverseAnswer (now (deq .entry)) (length (now (out .entry))) ⌝ }
+    ensures { λ r. ⌜ r ≡ inverseAnswer 16 (now (deq .entry)) (length (now (out .entry))) ⌝ }
     ensures { λ r. ⌜ now (out .exit) ≡ written r (now (out .entry)) (inverse4x4 (now (deq .entry))) ⌝ }
 {
     if deq.len() != 16 {
@@ -43,15 +43,13 @@ pub fn inverse_4x4_list(deq: &[i32], out: &mut [i32]) -> u32
     if !all_in_range(deq) {
         return 8;
     }
-    widen(&inverse_core(deq), out);
-    0
+    widen_all(&inverse_core(deq), out)
 }
 
 // The residuals of each sixteen numbers of a list, at the same places. Residuals have sixteen bits, so that nobody need ask for their range again.
 pub fn inverse_blocks(list: &[i32], out: &mut [i16]) -> u32
-    ensures { λ r. ⌜ r ≡ answer (2 unless eqb (length (now (list .entry)) % 16) 0 ∷ 2 unless eqb (length (now (list .entry))) (length (now (out .entry)))
-        ∷ 8 unless allInRange (now (list .entry)) ∷ []) ⌝ }
-    ensures { λ r. ⌜ now (out .exit) ≡ written r (now (out .entry)) (inverseBlocks (now (list .entry))) ⌝ }
+    ensures { λ r. ⌜ r ≡ blocksAnswer 16 (now (list .entry)) (length (now (out .entry))) ⌝ }
+    ensures { λ r. ⌜ now (out .exit) ≡ written r (now (out .entry)) (blockwise 16 inverse4x4 (now (list .entry))) ⌝ }
 {
     if list.len() % 16 != 0 {
         return 2;
@@ -69,7 +67,7 @@ pub fn inverse_blocks(list: &[i32], out: &mut [i16]) -> u32
 // The same of a list that passes.
 fn invert_all(list: &[i32], out: &mut [i16])
     requires { ⌜ (length (now list) % 16 ≡ 0) × (length (now list) ≡ length (now out)) × (allInRange (now list) ≡ true) ⌝ }
-    ensures { λ _. ⌜ now (out .exit) ≡ inverseBlocks (now (list .entry)) ⌝ }
+    ensures { λ _. ⌜ now (out .exit) ≡ blockwise 16 inverse4x4 (now (list .entry)) ⌝ }
 {
     let n = list.len() / 16;
     for b in 0..n {
@@ -85,16 +83,6 @@ pub(crate) fn inverse_core(deq: &[i32]) -> [i16; 16]
     let mut res = [0i16; 16];
     invert(deq, &mut res);
     res
-}
-
-// Sixteen residuals as wider numbers.
-pub(crate) fn widen(res: &[i16], out: &mut [i32])
-    requires { ⌜ (length (now res) ≡ 16) × (length (now out) ≡ 16) ⌝ }
-    ensures { λ _. ⌜ now (out .exit) ≡ now (res .entry) ⌝ }
-{
-    for k in 0..16 {
-        out[k] = res[k] as i32;
-    }
 }
 
 // The residuals of the first sixteen numbers of a list over the first sixteen places of `out`: four rows, then four columns.

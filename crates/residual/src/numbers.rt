@@ -49,6 +49,21 @@ fn narrow_list(list: &[i32], out: &mut [i16])
     }
 }
 
+// Residuals as wider numbers.
+pub fn widen_all(list: &[i16], out: &mut [i32]) -> u32
+    ensures { λ r. ⌜ r ≡ answer (2 unless eqb (length (now (list .entry))) (length (now (out .entry))) ∷ []) ⌝ }
+    ensures { λ r. ⌜ now (out .exit) ≡ written r (now (out .entry)) (now (list .entry)) ⌝ }
+{
+    if list.len() != out.len() {
+        return 2;
+    }
+    let n = list.len();
+    for k in 0..n {
+        out[k] = list[k] as i32;
+    }
+    0
+}
+
 // A number as a residual, and whether it is one.
 pub(crate) fn narrow(v: i32) -> Narrowed
     ensures { λ r. ⌜ (r .answer ≡ answer (8 unless inRange v ∷ [])) × (r .answer ≡ 0 → r .residual ≡ v) ⌝ }

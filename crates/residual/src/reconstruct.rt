@@ -15,10 +15,10 @@ ghost use Rattle.residual.specs.Reconstruct.{sums, putSquare, sumIn, row
 ghost use Rattle.residual.specs.inner.Sums.{summed};
 use super::inverse::inverse_blocks;
 use super::inverse::inverse_core;
-use super::inverse::widen;
 use super::numbers::all_in_range;
 use super::numbers::narrow;
 use super::numbers::narrow_all;
+use super::numbers::widen_all;
 use basics::clip::clip_u8;
 
 pub struct Block4x4 {
@@ -51,7 +51,7 @@ pub fn reconstruct_4x4_lists(deq: &[i32], pred: &[i32], block: &mut [u8]) -> u32
         return answer;
     }
     let mut res = [0i32; 16];
-    widen(&inverse_core(deq), &mut res);
+    widen_all(&inverse_core(deq), &mut res);
     add_clipped(16, &res, pred, block);
     0
 }

@@ -24,10 +24,38 @@ fn coefficients(residual: &[i32; 16], step: f32) -> [i32; 16] {
         let column = line(std::array::from_fn(|k| rows[4 * k + c]));
         for r in 0..4 {
             let exact = column[r] as f32 * 64.0 / (norm(r) * norm(c));
-            out[4 * r + c] = ((exact / step).round() * step).round() as i32;
+            out[4 * r + c] = to_step(exact, step);
         }
     }
     out
+}
+
+fn to_step(exact: f32, step: f32) -> i32 {
+    ((exact / step).round() * step).round() as i32
+}
+
+/// What each of eight coefficients adds to a line of eight samples in the 8x8 inverse, in eighths. Any two of these are orthogonal.
+const LINES_8X8: [[i32; 8]; 8] = [
+    [8, 8, 8, 8, 8, 8, 8, 8],
+    [12, 10, 6, 3, -3, -6, -10, -12],
+    [8, 4, -4, -8, -8, -4, 4, 8],
+    [10, -3, -12, -6, 6, 12, 3, -10],
+    [8, -8, -8, 8, 8, -8, -8, 8],
+    [6, -12, 3, 10, -10, -3, 12, -6],
+    [4, -8, 8, -4, -4, 8, -8, 4],
+    [3, -6, 10, -12, 12, -10, 6, -3],
+];
+
+/// The same for an 8x8 block: for each coefficient the residual multiplied by a line down and a line across, and divided by the squares of both.
+/// The inverse divides by 64, and two lines in eighths do so too: these cancel out.
+fn coefficients_8x8(residual: &[i32; 64], step: f32) -> [i32; 64] {
+    let product = |a: [i32; 8], b: [i32; 8]| a.iter().zip(b).map(|(a, b)| a * b).sum::<i32>();
+    let across = LINES_8X8.map(|line| std::array::from_fn(|y| product(line, std::array::from_fn(|x| residual[8 * y + x]))));
+    let squares = LINES_8X8.map(|line| product(line, line) as f32 / 64.0);
+    std::array::from_fn(|k| {
+        let (r, c) = (k / 8, k % 8);
+        to_step(product(LINES_8X8[r], across[c]) as f32 / (squares[r] * squares[c]), step)
+    })
 }
 
 /// What a choice costs: the squared error, and something for each number that is not 0.
@@ -103,6 +131,9 @@ fn residual(wanted: &Plane, x: usize, y: usize, pred: &[u8], from: Square) -> [i
 
 const STEP: f32 = 40.0;
 
+/// Half of it: a coefficient of an 8x8 block moves four times as many samples, so that its rounding costs as much as one of a 4x4 block.
+const STEP_8X8: f32 = STEP / 2.0;
+
 fn try_4x4(wanted: &Plane, plane: &mut Plane, x: usize, y: usize, n: Near, record: &mut Record) -> i64 {
     record.kind = 0;
     let mut total = 400;
@@ -146,22 +177,15 @@ fn try_8x8(wanted: &Plane, plane: &mut Plane, x: usize, y: usize, n: Near, recor
         let best = (0..9u8).filter(|mode| block::permitted_8x8(m) >> mode & 1 == 1).map(|mode| {
             let pred = block::intra8x8_pred(mode, m, &top, &left, corner).expect("a permitted mode");
             let pred: [i32; 64] = pred.map(i32::from);
-            // Residual samples come as they are: small ones are left out.
-            let res: [i32; 64] = std::array::from_fn(|i| {
-                let r = there[i] as i32 - pred[i];
-                if r.abs() < 3 {
-                    0
-                } else {
-                    r
-                }
-            });
-            let got = block::add_residual_8x8(&res, &pred).expect("numbers in range");
-            (cost(&there, &got, &res), mode, res, got)
+            let c = coefficients_8x8(&std::array::from_fn(|i| there[i] as i32 - pred[i]), STEP_8X8);
+            let residual = block::inverse_8x8(&c).expect("numbers in range");
+            let got = block::add_residual_8x8(&residual, &pred).expect("numbers in range");
+            (cost(&there, &got, &c), mode, c, got)
         });
-        let (price, mode, res, got) = best.min_by_key(|b| b.0).expect("DC is always permitted");
+        let (price, mode, c, got) = best.min_by_key(|b| b.0).expect("DC is always permitted");
         plane.put(x, y, 8, &got);
         record.modes[k] = mode;
-        record.numbers[64 * k..][..64].copy_from_slice(&res);
+        record.numbers[64 * k..][..64].copy_from_slice(&c);
         total += price;
     }
     total

@@ -75,6 +75,29 @@ pub struct Record {
     pub numbers: [i32; 384],
 }
 
+impl Record {
+    /// The coefficients of each block: luma, Cb, Cr.
+    pub fn blocks(&self) -> impl Iterator<Item = &[i32]> {
+        let (luma, chroma) = self.numbers.split_at(256);
+        luma.chunks_exact(luma_block(self.kind)).chain(chroma.chunks_exact(16))
+    }
+
+    /// The same, to be changed.
+    pub fn blocks_mut(&mut self) -> impl Iterator<Item = &mut [i32]> {
+        let (luma, chroma) = self.numbers.split_at_mut(256);
+        luma.chunks_exact_mut(luma_block(self.kind)).chain(chroma.chunks_exact_mut(16))
+    }
+}
+
+/// How many coefficients a luma block of a macroblock of this kind has.
+fn luma_block(kind: u8) -> usize {
+    if kind == 1 {
+        64
+    } else {
+        16
+    }
+}
+
 /// The marks of each block of a macroblock of this kind, in its order.
 pub fn block_marks(kind: u8, n: Near) -> Vec<rules::Marks> {
     match kind {
@@ -101,26 +124,32 @@ pub fn good_record(random: &mut Random, kind: u8, n: Near) -> Record {
     r
 }
 
-/// How many coefficients a picture has: the share of its macroblocks without any, and the share of 4x4 blocks without any in the others.
+/// How many coefficients a picture has: the share of its macroblocks without any, and the share of blocks without any in the others.
 #[derive(Clone, Copy, Debug)]
 pub struct Density {
     pub bare_macroblocks: f64,
     pub bare_blocks: f64,
 }
 
+/// The places near the first coefficient of a block, as row and column.
+const NEAR_FIRST: [(usize, usize); 7] = [(0, 1), (1, 0), (1, 1), (0, 2), (2, 0), (1, 2), (2, 1)];
+
 impl Random {
     fn chance(&mut self, share: f64) -> bool {
         (self.below(1 << 20) as f64) < share * (1 << 20) as f64
     }
 
-    /// The coefficients of a block as encoders leave them: three in four blocks have only the first, the rest up to five more near it.
+    /// The coefficients of a block as encoders leave them. Three in four 4x4 blocks, and one in four 8x8 blocks, have only the first; the
+    /// rest have up to five more near it.
     fn few_coefficients(&mut self, block: &mut [i32]) {
         let step = 16 * (1 + self.below(8) as i32);
         let level = |random: &mut Random| step * (1 + random.below(3) as i32) * random.pick(&[-1, 1]);
+        let (side, alone) = if block.len() == 64 { (8, 1) } else { (4, 3) };
         block[0] = level(self);
-        if self.one_in(4) {
+        if self.below(4) >= alone {
             for _ in 0..1 + self.below(5) {
-                block[self.pick(&[1, 4, 5, 2, 8, 6, 9])] = level(self);
+                let (row, column) = self.pick(&NEAR_FIRST);
+                block[side * row + column] = level(self);
             }
         }
     }
@@ -133,18 +162,7 @@ fn sparse_record(random: &mut Random, kind: u8, n: Near, density: Density) -> Re
     if random.chance(density.bare_macroblocks) {
         return r;
     }
-    let (luma, chroma) = r.numbers.split_at_mut(256);
-    if kind == 1 {
-        for block in luma.chunks_exact_mut(64) {
-            if !random.chance(density.bare_blocks) {
-                let mut within = |reach: usize| random.below(2 * reach + 1) as i32 - reach as i32;
-                let (first, across, down) = (within(20), within(2), within(2));
-                block.iter_mut().enumerate().for_each(|(i, v)| *v = first + across * (i as i32 % 8) + down * (i as i32 / 8));
-            }
-        }
-    }
-    let coded = if kind == 1 { &mut [] } else { luma };
-    for block in coded.chunks_exact_mut(16).chain(chroma.chunks_exact_mut(16)) {
+    for block in r.blocks_mut() {
         if !random.chance(density.bare_blocks) {
             random.few_coefficients(block);
         }
@@ -163,10 +181,11 @@ pub fn sparse_records(random: &mut Random, w: u32, h: u32, slices: &[u16], densi
         .collect()
 }
 
-/// Of 100 blocks of sixteen numbers, how many are all 0.
+/// Of 100 blocks, how many have no coefficients. An 8x8 block counts as four.
 pub fn bare_share(records: &[Record]) -> f64 {
-    let blocks = || records.iter().flat_map(|r| r.numbers.chunks_exact(16));
-    100.0 * blocks().filter(|b| b.iter().all(|&v| v == 0)).count() as f64 / blocks().count() as f64
+    let bare = |block: &&[i32]| block.iter().all(|&v| v == 0);
+    let numbers: usize = records.iter().flat_map(Record::blocks).filter(bare).map(<[i32]>::len).sum();
+    100.0 * numbers as f64 / (384 * records.len()) as f64
 }
 
 /// A buffer between guards, which no call may write. Two that are compared are compared with their guards.

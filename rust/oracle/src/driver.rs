@@ -1,7 +1,8 @@
-//! A driver over whole pictures that calls the Rust's routines: the rules' checks in their order, then the macroblock.
+//! A driver over whole pictures that calls the Rust's routines and the 8x8 inverse: the rules' checks in their order, then the macroblock.
 //!
-//! It comes in forms for the benchmark. `CHECKS` says whether refusals 6 to 8 are looked for. `SHORT` gives 4x4 blocks whose only
-//! coefficient is the first, or which have none, to the Rust's routine for one residual, which needs no inverse.
+//! It comes in forms for the benchmark. `CHECKS` says whether refusals 6 to 8 are looked for. `SHORT` gives blocks whose only coefficient is
+//! the first, or which have none, one residual for all samples, which needs no inverse; an 8x8 block without any keeps its prediction.
+use crate::inverse_8x8::inverse_8x8;
 use crate::predict::{self, I16Mode, CHROMA_4X4_SCAN_XY, LUMA_4X4_SCAN_XY};
 use crate::rules::{self, Marks};
 
@@ -164,7 +165,7 @@ fn macroblock_as<const CHECKS: bool, const SHORT: bool>(
     }
     match kind {
         0 => blocks_4x4::<SHORT>(luma, x, y, n, modes, numbers),
-        1 => blocks_8x8(luma, x, y, n, modes, numbers),
+        1 => blocks_8x8::<SHORT>(luma, x, y, n, modes, numbers),
         _ => block_16x16::<SHORT>(luma, x, y, n, modes[0], numbers),
     }
     chroma::<SHORT>(cb, x, y, n, chroma_mode, &numbers[256..320]);
@@ -175,10 +176,23 @@ fn macroblock_as<const CHECKS: bool, const SHORT: bool>(
 /// A 4x4 block's prediction and residual into the plane.
 fn reconstruct<const SHORT: bool>(deq: &[i32], pred: &[u8], p_off: usize, p_stride: usize, p: &mut Plane, at: usize) {
     let deq: &[i32; 16] = deq.try_into().unwrap();
-    if SHORT && deq[1..].iter().fold(0, |all, v| all | v) == 0 {
-        predict::reconstruct_4x4_dc_into((deq[0] + 32) >> 6, pred, p_off, p_stride, p.samples, at, p.stride);
-    } else {
-        predict::reconstruct_4x4_into(deq, pred, p_off, p_stride, p.samples, at, p.stride);
+    match flat_residual::<SHORT>(deq) {
+        Some(flat) => predict::reconstruct_4x4_dc_into(flat, pred, p_off, p_stride, p.samples, at, p.stride),
+        None => predict::reconstruct_4x4_into(deq, pred, p_off, p_stride, p.samples, at, p.stride),
+    }
+}
+
+/// The short way: the residual of every sample, where the coefficients are 0 but for the first.
+fn flat_residual<const SHORT: bool>(deq: &[i32]) -> Option<i32> {
+    (SHORT && deq[1..].iter().fold(0, |all, v| all | v) == 0).then(|| (deq[0] + 32) >> 6)
+}
+
+/// An 8x8 block's prediction and residual.
+fn sums_8x8<const SHORT: bool>(deq: &[i32; 64], pred: [u8; 64]) -> [u8; 64] {
+    match flat_residual::<SHORT>(deq) {
+        Some(0) => pred,
+        Some(flat) => pred.map(|v| predict::clip_u8(i32::from(v) + flat)),
+        None => predict::add_residual_8x8(&inverse_8x8(deq), &pred.map(i32::from)),
     }
 }
 
@@ -264,7 +278,7 @@ fn blocks_4x4<const SHORT: bool>(p: &mut Plane, x: usize, y: usize, n: Near, mod
     }
 }
 
-fn blocks_8x8(p: &mut Plane, x: usize, y: usize, n: Near, modes: &[u8], numbers: &[i32]) {
+fn blocks_8x8<const SHORT: bool>(p: &mut Plane, x: usize, y: usize, n: Near, modes: &[u8], numbers: &[i32]) {
     for k in 0..4 {
         let (bx, by) = (k % 2, k / 2);
         let m = marks(bx, by, n);
@@ -273,8 +287,7 @@ fn blocks_8x8(p: &mut Plane, x: usize, y: usize, n: Near, modes: &[u8], numbers:
         let top = above::<16>(p, at, m.above, right);
         let column = left::<8>(p, at, m.left);
         let pred = predict::intra8x8_pred(modes[k], m.above, m.left, m.corner, &top, &column, corner(p, at, m.corner));
-        let res: &[i32; 64] = numbers[64 * k..][..64].try_into().unwrap();
-        let block = predict::add_residual_8x8(res, &pred.map(i32::from));
+        let block = sums_8x8::<SHORT>(numbers[64 * k..][..64].try_into().unwrap(), pred);
         for (r, row) in block.chunks_exact(8).enumerate() {
             p.samples[at + r * p.stride..][..8].copy_from_slice(row);
         }

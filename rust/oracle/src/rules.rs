@@ -1,5 +1,5 @@
-//! Each routine inside the rules' domain is the Rust's own; outside it, the refusal that the rules give.
-use crate::{intra_pred, predict, transform};
+//! Each routine inside the rules' domain is the Rust's own, and the 8x8 inverse the clause's; outside it, the refusal that the rules give.
+use crate::{intra_pred, inverse_8x8, predict, transform};
 
 pub const LOW: i32 = -32768;
 pub const HIGH: i32 = 32767;
@@ -146,6 +146,11 @@ pub fn chroma8x8_plane_pred(mode: u8, pred: &mut [u8], rec: &[u8], base: usize, 
 pub fn inverse_4x4(deq: &[i32; 16]) -> Result<[i32; 16], u32> {
     in_range(deq)?;
     Ok(transform::inverse_core(deq))
+}
+
+pub fn inverse_8x8(deq: &[i32; 64]) -> Result<[i32; 64], u32> {
+    in_range(deq)?;
+    Ok(inverse_8x8::inverse_8x8(deq))
 }
 
 pub fn reconstruct_4x4(deq: &[i32; 16], pred: &[i32; 16]) -> Result<[u8; 16], u32> {

@@ -13,7 +13,7 @@ use Rattle.macroblock.specs.Cut.{scanX, scanY, sidesOf, squareSides}
 use Rattle.maps.specs.Neighbours.Side.{A, B, D}
 use Rattle.macroblock.specs.declared.cut.Place.{Place}
 use Rattle.macroblock.specs.declared.cut.Sides.{Sides}
-use Rattle.macroblock.specs.Kinds.{residual4x4, cutFor}
+use Rattle.macroblock.specs.Kinds.{residual4x4, residual8x8, cutFor}
 use Rattle.macroblock.specs.Rules.{used, lastMode, permittedFor}
 
 -- for m blocks across, places and numbers answer one another
@@ -96,12 +96,12 @@ pub record PiecesIn (m base n : ℕ) : Type 0 where
   pub blocks : base + m * m ≤ 24
 
 -- ---- residuals where a macroblock's numbers stood
--- those of the coefficient blocks from `first` on are transformed, and the numbers before them are as they were
+-- those of the 4x4 coefficient blocks from `first` on, and those of the 8x8 coefficient blocks before them
 pub record Transformed (first : ℕ) (numbers residuals : List ℤ) : Type 0 where
-  pub before : (i : ℕ) → i < 16 * first → at residuals i ≡ at numbers i
+  pub before : (k x y : ℕ) → 4 * k + 4 ≤ first → x < 8 → y < 8 → at residuals (64 * k + (8 * y + x)) ≡ residual8x8 numbers k x y
   pub after : (b x y : ℕ) → first ≤ b → b < 24 → x < 4 → y < 4 → at residuals (16 * b + (4 * y + x)) ≡ residual4x4 numbers b x y
 
--- the first block that is transformed, by kind. Kind 1 brings luma residuals that are already transformed
+-- the first 4x4 coefficient block, by kind: the luma of kind 1 is coded in 8x8 blocks
 abbrev pub firstFor : ℕ → ℕ
 firstFor zero = 0
 firstFor (suc zero) = 16

@@ -1,12 +1,14 @@
 //! The port and the Rust side by side in one run, on the same inputs. The Rust comes in the best forms that are known for it: with the same
-//! checks as the port, without them, and for pictures also with a short way for blocks of no or one coefficient. All are timed in turns,
-//! many times; what is told is the median of the ratios with the quartiles around it.
+//! checks as the port, without them, and for pictures also with a short way for blocks of no or one coefficient. Its 8x8 inverse is the one
+//! that the differential runs compare with. All are timed in turns, many times; what is told is the median of the ratios with the quartiles
+//! around it.
 //!
 //! `bench FOLDER [ROUNDS]` writes table.md, headline.md and benchmark.svg into the folder. Where valgrind is installed the table also has
 //! the instructions of each side: valgrind runs this program again with `count`, which makes each call a fixed number of times and times
 //! nothing.
 use harness::{bare_share, good_records, slice_map, sparse_records, Density, Memory, Random, Record};
 use jiwarbend::sys::*;
+use oracle::inverse_8x8::inverse_8x8;
 use oracle::predict::{self, I16Mode};
 use oracle::rules::{self, Marks, Square};
 use oracle::{driver, intra_pred, transform};
@@ -391,6 +393,35 @@ fn small(inputs: &Inputs) -> Vec<Row> {
     ]
 }
 
+type Inverse = unsafe extern "C" fn(*const i32, usize, *mut i32, usize) -> u32;
+
+fn inverse<const B: usize>(inputs: &Inputs, name: &str, export: Inverse, rust: impl Fn(&[i32; B]) -> [i32; B]) -> Row {
+    let mut ours = [0; B];
+    let numbers = |i: usize| -> &[i32; B] { first(&inputs.numbers[i]) };
+    compare(
+        "sums",
+        name.into(),
+        1.0,
+        vec![
+            &mut |i| {
+                let deq = numbers(i);
+                rules::in_range(deq).unwrap();
+                let block = rust(deq);
+                black_box(&block);
+            },
+            &mut |i| {
+                let block = rust(numbers(i));
+                black_box(&block);
+            },
+            &mut |i| {
+                let answer = unsafe { export(numbers(i).as_ptr(), B, ours.as_mut_ptr(), B) };
+                assert_eq!(answer, 0);
+                black_box(&ours);
+            },
+        ],
+    )
+}
+
 type Sums = unsafe extern "C" fn(*const i32, usize, *const i32, usize, *mut u8, usize) -> u32;
 
 fn sums<const B: usize>(inputs: &Inputs, name: &str, export: Sums, rust: impl Fn(&[i32; B], &[i32; B]) -> [u8; B]) -> Row {
@@ -461,7 +492,6 @@ fn into_plane(
 }
 
 fn blocks(inputs: &Inputs) -> Vec<Row> {
-    let mut ours = [0; 16];
     let list = |export: Into| {
         move |n: &[i32; 16], pred: &[u8], from: Square, rec: &mut [u8], to: Square| {
             let (p, r) = (pred.as_ptr(), rec.as_mut_ptr());
@@ -469,28 +499,8 @@ fn blocks(inputs: &Inputs) -> Vec<Row> {
         }
     };
     vec![
-        compare(
-            "sums",
-            "inverse_4x4".into(),
-            1.0,
-            vec![
-                &mut |i| {
-                    let deq = first(&inputs.numbers[i]);
-                    rules::in_range(deq).unwrap();
-                    let block = transform::inverse_core(deq);
-                    black_box(&block);
-                },
-                &mut |i| {
-                    let block = transform::inverse_core(first(&inputs.numbers[i]));
-                    black_box(&block);
-                },
-                &mut |i| {
-                    let answer = unsafe { jiwarbend_inverse_4x4(inputs.numbers[i].as_ptr(), 16, ours.as_mut_ptr(), 16) };
-                    assert_eq!(answer, 0);
-                    black_box(&ours);
-                },
-            ],
-        ),
+        inverse(inputs, "inverse_4x4", jiwarbend_inverse_4x4, transform::inverse_core),
+        inverse(inputs, "inverse_8x8", jiwarbend_inverse_8x8, inverse_8x8),
         sums(inputs, "reconstruct_4x4", jiwarbend_reconstruct_4x4, predict::reconstruct_4x4),
         sums(inputs, "add_residual_4x4", jiwarbend_add_residual_4x4, predict::add_residual_4x4),
         sums(inputs, "add_residual_8x8", jiwarbend_add_residual_8x8, predict::add_residual_8x8),
@@ -651,7 +661,7 @@ const GROUPS: [(&str, &str); 5] = [
     ("sparse", "Whole pictures with as few coefficients as real streams have, nanoseconds for a macroblock"),
     ("random", "Whole pictures with numbers at random, nanoseconds for a macroblock"),
     ("prediction", "Prediction, nanoseconds for a block"),
-    ("sums", "The inverse and clipped sums, nanoseconds for a block"),
+    ("sums", "Inverses and clipped sums, nanoseconds for a block"),
     ("small", "Small routines and start, nanoseconds for a call"),
 ];
 

@@ -1,5 +1,6 @@
 //! The port against the Rust it was ported from, call by call: answers, what was written and what was not.
-//! Inside the rules' domain the Rust's own routine says what is right; outside it, the rules' refusals do (`oracle::rules`).
+//! Inside the rules' domain the Rust's own routine says what is right, and of the 8x8 inverse a second writing of its clause; outside it, the
+//! rules' refusals do (`oracle::rules`).
 //! Every limit is drawn on both sides, every list in its own length, one short, one long and empty, and guards stand around every buffer. How
 //! often each answer was given is counted: an answer that a call can give and has not given is a failure too. What the Rust says of a 4x4 or
 //! 8x8 case is also due, transposed, of the case turned on its side.
@@ -86,7 +87,7 @@ impl Drop for Routine<'_> {
 }
 
 /// What a call that gives a block leaves in the buffer it was lent.
-fn left_behind<T: AsRef<[u8]>>(len: usize, result: Result<T, u32>) -> (u32, Guarded<u8>) {
+fn left_behind<E: Copy + From<u8>, T: AsRef<[E]>>(len: usize, result: Result<T, u32>) -> (u32, Guarded<E>) {
     let mut buffer = Guarded::filled(len);
     match result {
         Ok(block) => {
@@ -503,40 +504,80 @@ fn small(report: &mut Report) {
     });
 }
 
-fn inverse(report: &mut Report) {
-    let rounds = report.many(3_000_000);
-    let mut routine = report.routine("inverse_4x4", &[0, 2, 8]);
+type Inverse = unsafe extern "C" fn(*const i32, usize, *mut i32, usize) -> u32;
+
+/// Any number in range.
+fn anywhere(random: &mut Random) -> i32 {
+    rules::LOW + random.below(65536) as i32
+}
+
+/// Coefficients of one of four families: mixed and now and then out of range, anywhere in the range, at its two ends, and a few among zeros.
+fn coefficients(random: &mut Random, family: usize, out: &mut [i32]) {
+    match family {
+        0 => numbers(random, out),
+        1 => out.iter_mut().for_each(|v| *v = anywhere(random)),
+        2 => out.iter_mut().for_each(|v| *v = random.pick(&[rules::LOW, rules::HIGH])),
+        _ => {
+            out.fill(0);
+            for _ in 0..1 + random.below(6) {
+                let v = anywhere(random);
+                out[random.below(out.len())] = random.pick(&[rules::LOW, rules::HIGH, v, v / 64]);
+            }
+        }
+    }
+}
+
+/// The two blocks that move a sample furthest: every coefficient at the end of the range by which it raises the sample, or lowers it.
+fn furthest<const B: usize>(sample: usize, rust: impl Fn(&[i32; B]) -> Result<[i32; B], u32>) -> [[i32; B]; 2] {
+    let raises: [bool; B] = std::array::from_fn(|place| {
+        let mut alone = [0; B];
+        alone[place] = rules::HIGH;
+        rust(&alone).expect("a number in range")[sample] > 0
+    });
+    [true, false].map(|wanted| raises.map(|raises| if raises == wanted { rules::HIGH } else { rules::LOW }))
+}
+
+fn inverse<const B: usize>(report: &mut Report, name: &'static str, export: Inverse, rust: impl Fn(&[i32; B]) -> Result<[i32; B], u32>) {
+    let rounds = report.many(4_000_000);
+    let mut routine = report.routine(name, &[0, 2, 8]);
     let mut random = Random::new(4);
-    let mut deq = [0; 16];
+    let mut deq = [0; B];
     let call = |deq: &[i32], len: usize| {
-        let mut buffer = vec![77; len + 16];
-        let answer = unsafe { jiwarbend_inverse_4x4(deq.as_ptr(), deq.len(), buffer[8..].as_mut_ptr(), len) };
+        let mut buffer = Guarded::filled(len);
+        let out = buffer.inner();
+        let answer = unsafe { export(deq.as_ptr(), deq.len(), out.as_mut_ptr(), out.len()) };
         (answer, buffer)
     };
-    let wanted = |deq: &[i32; 16]| {
-        let mut buffer = vec![77; 32];
-        match rules::inverse_4x4(deq) {
-            Ok(block) => {
-                buffer[8..24].copy_from_slice(&block);
-                (0, buffer)
-            }
-            Err(n) => (n, buffer),
-        }
-    };
+    let one = |routine: &mut Routine, deq: &[i32; B]| routine.told(call(deq, B), left_behind(B, rust(deq)), || format!("{deq:?}"));
     // A lone coefficient at each place, through the whole range and past its ends.
-    for place in 0..16 {
+    for place in 0..B {
         for v in (-32800..32800).step_by(if rounds < 100_000 { 97 } else { 1 }) {
-            deq = [0; 16];
+            let mut deq = [0; B];
             deq[place] = v;
-            routine.told(call(&deq, 16), wanted(&deq), || format!("{v} at {place}"));
+            one(&mut routine, &deq);
         }
     }
-    for _ in 0..rounds {
-        numbers(&mut random, &mut deq);
-        routine.told(call(&deq, 16), wanted(&deq), || format!("{deq:?}"));
+    // The limits on both sides at each place of blocks at random, and the blocks whose residuals are the largest.
+    for place in 0..B {
+        for v in LIMITS {
+            coefficients(&mut random, 1, &mut deq);
+            deq[place] = v;
+            one(&mut routine, &deq);
+        }
+        for deq in furthest(place, &rust) {
+            one(&mut routine, &deq);
+        }
     }
-    for (n, out) in (0..40).flat_map(|n| (0..40).map(move |out| (n, out))).filter(|&p| p != (16, 16)) {
-        routine.told(call(&[0; 40][..n], out), (2, vec![77; out + 16]), || format!("lengths {n}, {out}"));
+    for round in 0..rounds {
+        coefficients(&mut random, round % 4, &mut deq);
+        one(&mut routine, &deq);
+    }
+    // Lists of other lengths: they are refused before the numbers are looked at.
+    let any = 2 * B + 8;
+    for (n, out) in (0..any).flat_map(|n| (0..any).map(move |out| (n, out))).filter(|&p| p != (B, B)) {
+        for v in [0, 32768] {
+            routine.told(call(&vec![v; n], out), (2, Guarded::filled(out)), || format!("lengths {n}, {out}, numbers {v}"));
+        }
     }
 }
 
@@ -802,7 +843,8 @@ fn main() {
     mean(&mut report, "chroma8x8_dc", jiwarbend_chroma8x8_dc, predict::chroma8x8_dc);
     from_plane(&mut report, "i16x16_luma_pred", 16, jiwarbend_i16x16_luma_pred, rules::i16x16_luma_pred);
     from_plane(&mut report, "chroma8x8_plane_pred", 8, jiwarbend_chroma8x8_plane_pred, rules::chroma8x8_plane_pred);
-    inverse(&mut report);
+    inverse(&mut report, "inverse_4x4", jiwarbend_inverse_4x4, rules::inverse_4x4);
+    inverse(&mut report, "inverse_8x8", jiwarbend_inverse_8x8, rules::inverse_8x8);
     sums(&mut report, "reconstruct_4x4", jiwarbend_reconstruct_4x4, rules::reconstruct_4x4);
     sums(&mut report, "add_residual_4x4", jiwarbend_add_residual_4x4, rules::add_residual_4x4);
     sums(&mut report, "add_residual_8x8", jiwarbend_add_residual_8x8, rules::add_residual_8x8);

@@ -1,10 +1,11 @@
 //! Writes the fixed list of macroblocks that the Rust's routines rebuilt to standard output: for each group, in the order of
 //! crates/macroblocks/src/main.rt, the number of its cases in two bytes, and the cases as the program there reads them. Refusal 2, which
-//! the Rust does not know, is given here; every other answer and every byte after a call is the driver's over those routines. The last
-//! group is wrong on purpose, so that the program shows that it sees a difference.
+//! the Rust does not know, is given here; every other answer and every byte after a call is the driver's over those routines and the 8x8
+//! inverse beside them. The last group is wrong on purpose, so that the program shows that it sees a difference.
 use harness::list::{put, List};
 use harness::{good_record, Random, Record};
 use oracle::driver::{self, Near, Plane};
+use oracle::rules;
 
 /// The side of a macroblock's square in luma, Cb and Cr.
 const SIDES: [usize; 3] = [16, 8, 8];
@@ -35,7 +36,7 @@ impl Case {
     fn new(random: &mut Random, (x, y, marks): (usize, usize, u8), kind: u8) -> Case {
         let mut record = good_record(random, kind, near(marks));
         if random.one_in(2) {
-            record.numbers.chunks_mut(16).for_each(|block| random.numbers(block));
+            record.blocks_mut().for_each(|block| random.numbers(block));
         }
         let strides = [48 + random.below(5), 24 + random.below(4), 24 + random.below(4)];
         let mut case = Case { x, y, marks, record, strides, planes: Default::default() };
@@ -100,6 +101,20 @@ impl Case {
         }
     }
 
+    /// Of the 8x8 blocks that have a residual: how many stay off the ends of 0..=255, so that nothing is clipped, and how many do not.
+    fn residuals_8x8(&self) -> [usize; 2] {
+        let (_, [luma, ..]) = self.answer();
+        let mut many = [0; 2];
+        for (k, deq) in self.record.blocks().take(4).enumerate() {
+            let (x, y) = (16 * self.x + 8 * (k % 2), 16 * self.y + 8 * (k / 2));
+            let mut samples = (y..y + 8).flat_map(|y| &luma[y * self.strides[0] + x..][..8]);
+            if rules::inverse_8x8(deq.try_into().unwrap()) != Ok([0; 64]) {
+                many[samples.any(|&v| v == 0 || v == 255) as usize] += 1;
+            }
+        }
+        many
+    }
+
     /// Breaks the rules after the one of this answer too.
     fn break_later(&mut self, answer: u32) {
         if answer < 6 {
@@ -126,10 +141,12 @@ fn places() -> Vec<(usize, usize, u8)> {
     out
 }
 
-/// A macroblock of this kind at each of the places, and five with all neighbours and the plane modes; every mode occurs.
+/// A macroblock of this kind at each of the places, and five with all neighbours and the plane modes. Every mode occurs, and 8x8 blocks have
+/// residuals that are clipped and residuals that are not.
 fn accepted(list: &mut List, random: &mut Random, kind: u8) {
     let places = places();
     let (mut luma, mut chroma) = (0, 0);
+    let mut residuals = [0; 2];
     list.part(places.len() + 5, |k, out| {
         let place = places.get(k).copied().unwrap_or((1, 1, A | B | C | D));
         let mut case = Case::new(random, place, kind);
@@ -142,9 +159,13 @@ fn accepted(list: &mut List, random: &mut Random, kind: u8) {
         let used = [16, 4, 1][kind as usize];
         luma |= case.record.modes[..used].iter().fold(0, |seen, mode| seen | 1 << mode);
         chroma |= 1 << case.record.chroma_mode;
+        if kind == 1 {
+            residuals.iter_mut().zip(case.residuals_8x8()).for_each(|(all, n)| *all += n);
+        }
         case.list(0, out);
     });
     assert_eq!((luma, chroma), ([0x1ff, 0x1ff, 0xf][kind as usize], 0xf));
+    assert!(kind != 1 || residuals.iter().all(|&n| n >= 40), "8x8 blocks not clipped and clipped: {residuals:?}");
 }
 
 /// A refused call: a place, marks, a kind, and what spoils the call.

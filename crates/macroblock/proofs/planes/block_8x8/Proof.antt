@@ -1,6 +1,6 @@
 -- `macroblock::planes::block_8x8` meets its contract: the block and its sides lie in the plane, the mode is not refused, and the sums are the definition's.
 -- Assumes nothing.
-use mathlib.Core.Path.{_≡_, sym, ap, subst, _∙_}
+use mathlib.Core.Path.{_≡_, sym, subst}
 use Prim.Native.Nat.{_+_, _*_}
 use native.Mathlib.Omega.{arith}
 use lib.ListN.{getD, length}
@@ -54,7 +54,7 @@ returns c numbers T =
     let a = u .args in
     part-drawn eight (λ k. predFor 1 (getD (a .modes .now) k 0)) (residualL 1 numbers) (a .place) (marksOf (a .marks)) (a .k) (omega arith) (e .before .place-of .ensures) (e .sides-of .ensures)
     (λ x y. 0 + y * 8 + x) (λ x y. at (a .residuals .now) (64 * a .k + (8 * y + x))) (a .plane .now) (d .predict-8x8 .ensures) (λ x y. omega arith)
-    (λ x y hx hy. T .before (64 * a .k + (8 * y + x)) (omega (arith, u .pre .1)) ∙ ap (at numbers) (let e : 64 * a .k + (8 * y + x) ≡ 64 * a .k + (y * 8 + x) = omega arith in e)) (p .put-8x8 .ensures)
+    (λ x y hx hy. T .before (a .k) x y (omega (arith, u .pre .1)) hx hy) (p .put-8x8 .ensures)
 
 pub block-8x8-spec : {M : Type 1} → statement M
 block-8x8-spec =

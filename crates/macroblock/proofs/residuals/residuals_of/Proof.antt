@@ -1,6 +1,6 @@
--- `macroblock::residuals::residuals_of` meets its contract: by kind 1 the first 256 numbers are residuals and the others are transformed, else all are.
--- Assumes nothing.
-use mathlib.Core.Path.{_≡_, sym, ap, _∙_}
+-- `macroblock::residuals::residuals_of` meets its contract: of kind 1 the first 256 numbers are transformed in 64s and the
+-- others in sixteens, else all in sixteens. Assumes nothing.
+use mathlib.Core.Path.{_≡_, refl, sym, ap, _∙_}
 use mathlib.Core.List.{List, [], _∷_, _++_}
 use Prim.Native.Nat.{_-_}
 use native.Mathlib.Omega.{arith}
@@ -9,24 +9,24 @@ use lib.ListN.{length, take, drop, length-take, length-drop}
 use Rattle.laws.specs.Answer.{_unless_, answer}
 use Rattle.laws.proofs.Answers.{put, passes}
 use Rattle.residual.specs.Numbers.{allInRange}
-use Rattle.macroblock.proofs.Transforms.{front-answer, rest-decides, all-transformed, kept-long, rest-transformed, kind-one, kind-other, blocks-answer, numbers-answer}
+use Rattle.macroblock.proofs.Transforms.{front-answer, rest-decides, all-transformed, kept-long, both-transformed, kind-one, kind-other, blocks-answer}
 use borrow.Author.Needs.{needs}
 use Rattle.macroblock.proofs.residuals.residuals_of.Statement.{statement}
 use Rattle.macroblock.proofs.residuals.residuals_of.Tie as tie
 
-slice-aggregate-narrow-all : tie.Need-slice-aggregate-narrow-all
-slice-aggregate-narrow-all c = let u = c .before .before in omega (arith, length-take 256 (u .args .numbers .now), u .pre .0)
+slice-aggregate-inverse-8x8-blocks : tie.Need-slice-aggregate-inverse-8x8-blocks
+slice-aggregate-inverse-8x8-blocks c = let u = c .before .before in omega (arith, length-take 256 (u .args .numbers .now), u .pre .0)
 
-slice-aggregate-narrow-all-2 : tie.Need-slice-aggregate-narrow-all-2
-slice-aggregate-narrow-all-2 c = let u = c .before .before .before in omega (arith, length-take 256 (u .args .out .now), u .pre .1)
+slice-aggregate-inverse-8x8-blocks-2 : tie.Need-slice-aggregate-inverse-8x8-blocks-2
+slice-aggregate-inverse-8x8-blocks-2 c = let u = c .before .before .before in omega (arith, length-take 256 (u .args .out .now), u .pre .1)
 
 -- the front's answer, and the front where it is 0
-fronted : (c : tie.After-narrow-all) → let u = c .before .before .before .before in c .narrow-all .result ≡ answer (8 unless allInRange (take 256 (u .args .numbers .now)) ∷ [])
+fronted : (c : tie.After-inverse-8x8-blocks) → let u = c .before .before .before .before in c .inverse-8x8-blocks .result ≡ answer (8 unless allInRange (take 256 (u .args .numbers .now)) ∷ [])
 fronted c =
     let u = c .before .before .before .before in
     let l = u .args .numbers .now in
     let o = u .args .out .now in
-    numbers-answer (take 256 l) (length (take 256 o)) _ (omega (arith, length-take 256 l, length-take 256 o, u .pre .0, u .pre .1)) (c .narrow-all .ensures .0)
+    blocks-answer 64 (take 256 l) (length (take 256 o)) _ (omega (arith, length-take 256 l, u .pre .0)) (omega (arith, length-take 256 l, length-take 256 o, u .pre .0, u .pre .1)) (c .inverse-8x8-blocks .ensures .0)
 
 returns : tie.Need-returns
 returns c =
@@ -47,10 +47,11 @@ returns-2 c =
     let l = u .args .numbers .now in
     let o = u .args .out .now in
     let long = chroma-long l (u .pre .0) in
-    let first = ap (λ t. t ++ drop 256 o) (n .narrow-all .ensures .1 ∙ put _ _ (z .if2 .left)) in (
-      blocks-answer (take (length l - 256) (drop 256 l)) _ _ (omega (arith, long)) (long ∙ sym (chroma-long (n .narrow-all .last .1 .0 ++ drop 256 o) (kept-long l o _ (u .pre .0) (u .pre .1) first))) (p .inverse-blocks .ensures .0)
+    let xs = n .inverse-8x8-blocks .last .1 .0 in
+    let front = n .inverse-8x8-blocks .ensures .1 ∙ put _ _ (z .if2 .left) in (
+      blocks-answer 16 (take (length l - 256) (drop 256 l)) _ _ (omega (arith, long)) (long ∙ sym (chroma-long (xs ++ drop 256 o) (kept-long l o xs _ (p .inverse-blocks .last .1 .0) (u .pre .0) (u .pre .1) front refl))) (p .inverse-blocks .ensures .0)
           ∙ ap (λ b. answer (8 unless b ∷ [])) (rest-decides 256 l (passes 7 (allInRange (take 256 l)) [] (sym (fronted n) ∙ z .if2 .left) .0)),
-      λ e. kind-one (u .args .kind) (omega (arith, n .before .before .before .if1 .taken)) (rest-transformed l o _ (p .inverse-blocks .last .1 .0) (u .pre .0) (u .pre .1) first (p .inverse-blocks .ensures .1 ∙ put _ _ e)),
+      λ e. kind-one (u .args .kind) (omega (arith, n .before .before .before .if1 .taken)) (both-transformed l o xs _ (p .inverse-blocks .last .1 .0) (u .pre .0) (u .pre .1) front refl (p .inverse-blocks .ensures .1 ∙ put _ _ e)),
     )
 
 returns-3 : tie.Need-returns-3
@@ -59,13 +60,13 @@ returns-3 c =
     let d = p .before .before in
     let u = d .before in
     let l = u .args .numbers .now in (
-      blocks-answer l _ _ (omega (arith, u .pre .0)) (omega (arith, u .pre .0, u .pre .1)) (p .inverse-blocks2 .ensures .0),
+      blocks-answer 16 l _ _ (omega (arith, u .pre .0)) (omega (arith, u .pre .0, u .pre .1)) (p .inverse-blocks2 .ensures .0),
       λ e. kind-other (u .args .kind) (d .if1 .left) (all-transformed l (p .inverse-blocks2 .last .1 .0) (u .pre .0) (p .inverse-blocks2 .ensures .1 ∙ put _ _ e)),
     )
 
 pub residuals-of-spec : {M : Type 1} → statement M
 residuals-of-spec =
     tie.close
-    (tie.spec slice-aggregate-narrow-all (λ c. search needs) slice-aggregate-narrow-all-2 (λ c κs. search needs) (λ c. search needs) returns
+    (tie.spec slice-aggregate-inverse-8x8-blocks (λ c. search needs) slice-aggregate-inverse-8x8-blocks-2 (λ c κs. search needs) (λ c. search needs) returns
     (λ c. search needs) (λ c. search needs) (λ c. search needs) (λ c. search needs) (λ c. search needs) (λ c. search needs) (λ c κs. search needs)
     (λ c. search needs) returns-2 (λ c κs. search needs) (λ c. search needs) returns-3)

@@ -1,8 +1,10 @@
 -- `residual::inverse::column` meets its contract: the four numbers are within 524288, so that rounding them fits. Assumes nothing.
 use mathlib.Core.Path.{_∙_}
+use Prim.Native.Nat.{ℕ}
 use mir.Facts.{toZ-ofZ}
 use borrow.Author.Needs.{needs, sfits-of}
-use Rattle.laws.proofs.Ints.{ints, four-is}
+use Rattle.laws.specs.Range.{Within, at}
+use Rattle.laws.proofs.Ints.{ints, four-is, within-more}
 use Rattle.residual.proofs.Transform.{column-at, column-is}
 use Rattle.residual.proofs.inverse.column.Statement.{statement}
 use Rattle.residual.proofs.inverse.column.Tie as tie
@@ -32,9 +34,9 @@ returns c =
     let a3 = a4 .before in
     let a2 = a3 .before in
     let a1 = a2 .before in
-    let w = g .one-dimensional .ensures .1 in
+    let w : (k : ℕ) → Within 2097088 (at (g .one-dimensional .result) k) = λ k. within-more 524288 2097088 _ (g .one-dimensional .ensures .1 .each k) tt in
     let e = simp (toZ-ofZ, sfits-of, a1 .one-dimensional-arg .given, a2 .one-dimensional-arg2 .given, a3 .one-dimensional-arg3 .given, a4 .one-dimensional-arg4 .given) at (g .one-dimensional .ensures .0) in
-    four-is (column-at (r1 .round .ensures) (w .each 0)) (column-at (r2 .round2 .ensures) (w .each 1)) (column-at (r3 .round3 .ensures) (w .each 2)) (column-at (c .round4 .ensures) (w .each 3))
+    four-is (column-at (r1 .round .ensures) (w 0)) (column-at (r2 .round2 .ensures) (w 1)) (column-at (r3 .round3 .ensures) (w 2)) (column-at (c .round4 .ensures) (w 3))
     ∙ column-is (g .one-dimensional .result) _ _ _ _ e
 
 pub column-spec : {M : Type 1} → statement M

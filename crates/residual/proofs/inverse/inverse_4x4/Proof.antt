@@ -6,7 +6,7 @@ use Rattle.residual.proofs.inverse.inverse_4x4.Statement.{statement}
 use Rattle.residual.proofs.inverse.inverse_4x4.Tie as tie
 
 returns : tie.Need-returns
-returns c = let p = c .before .inverse-4x4-list .ensures in (p .0 ∙ inverse-array _ (c .before .before .before .inverse-4x4-list-arg .given .0), p .1)
+returns c = let p = c .before .inverse-4x4-list .ensures in (p .0 ∙ inverse-array 16 _ (c .before .before .before .inverse-4x4-list-arg .given .0), p .1)
 
 pub inverse-4x4-spec : {M : Type 1} → statement M
 inverse-4x4-spec =

@@ -1,8 +1,12 @@
 -- `residual::inverse::inverse_4x4_list` meets its contract: it refuses what its tests refuse. Assumes nothing.
-use mathlib.Core.Path.{_≡_, refl, sym, _∙_}
+use mathlib.Core.Path.{_≡_, refl, sym, ap, _∙_}
 use mathlib.Core.Bool.{true}
 use borrow.Author.Tests.{not-true, not-false, eq-eqb, ne-eqb}
+use lib.ListN.{length}
+use Rattle.laws.proofs.Answers.{put}
 use Rattle.residual.specs.Numbers.{allInRange}
+use Rattle.residual.proofs.Rooms.{copied}
+use Rattle.residual.proofs.Transform.{inverse-long}
 use borrow.Author.Needs.{needs}
 use Rattle.residual.proofs.inverse.inverse_4x4_list.Statement.{statement}
 use Rattle.residual.proofs.inverse.inverse_4x4_list.Tie as tie
@@ -30,7 +34,9 @@ returns-4 c =
     let i = c .before .before .before .before in
     let e = i .before in
     let d = e .before .before in
-    (rw (eq-eqb _ _ (d .before .if1 .left), eq-eqb _ _ (d .if2 .left), passed e), c .before .widen .ensures ∙ i .inverse-core .ensures)
+    let w = c .before .widen-all .ensures in
+    let k = copied _ _ (ap length (i .inverse-core .ensures) ∙ inverse-long _ ∙ sym (d .if2 .left)) (w .0) (w .1) in
+    (k .0 ∙ rw (eq-eqb _ _ (d .before .if1 .left), eq-eqb _ _ (d .if2 .left), passed e), k .1 ∙ i .inverse-core .ensures ∙ sym (put _ _ (k .0)))
 
 pub inverse-4x4-list-spec : {M : Type 1} → statement M
 inverse-4x4-list-spec =

@@ -5,15 +5,17 @@ use native.Mathlib.Omega.{arith}
 use lib.ListN.{length, length-take, length-drop}
 use Rattle.laws.specs.Range.{Within}
 use Rattle.laws.specs.Table.{onto}
+use Rattle.laws.proofs.Blockwise.{blockAt, kept, block-at, block-more}
 use Rattle.laws.proofs.Ontos.{onto-none, onto-all, onto-long}
+use Rattle.residual.specs.Inverse.{inverse4x4}
 use Rattle.residual.proofs.InRange.{all-within}
-use Rattle.residual.proofs.Transform.{blockAt, kept, block-at, block-more}
+use Rattle.residual.proofs.Transform.{of-block}
 use borrow.Author.Needs.{needs}
 use Rattle.residual.proofs.inverse.invert_all.Statement.{statement}
 use Rattle.residual.proofs.inverse.invert_all.Tie as tie
 
 abbrev Inv-loop : tie.InvT-loop
-Inv-loop list out₀ n b₀ out b = (b ≤ n) × (out ≡ onto (16 * b) (blockAt list) out₀)
+Inv-loop list out₀ n b₀ out b = (b ≤ n) × (out ≡ onto (16 * b) (blockAt 16 inverse4x4 list) out₀)
 
 abbrev μ-loop : tie.MeasureT-loop
 μ-loop list out₀ n b₀ out b = n - b
@@ -28,7 +30,7 @@ here c =
     let b = c .before in
     let s = b .before in
     let room : 16 * b .loop .b + 16 ≤ length (s .args .list .now) = omega arith in
-    (room, kept (b .loop .b) (s .args .list .now) (s .args .out .now) (b .loop .out) (b .loop .inv .1) room (sym (s .pre .1)))
+    (room, kept 16 inverse4x4 of-block (b .loop .b) (s .args .list .now) (s .args .out .now) (b .loop .out) (b .loop .inv .1) room (sym (s .pre .1)))
 
 invert-requires : tie.Need-invert-requires Inv-loop μ-loop
 invert-requires c κs =
@@ -37,7 +39,7 @@ invert-requires c κs =
     let h = here (c .before .before) in (
       simp (length-take, length-drop) (omega arith),
       simp (length-take, length-drop) (omega arith),
-      λ k n. subst (Within 32768) (sym (block-at (b .loop .b) l _ _ (b .loop .inv .1) (h .0) (sym (b .before .pre .1)) k n)) (all-within l (b .before .pre .2) .each (16 * b .loop .b + k)),
+      λ k n. subst (Within 32768) (sym (block-at 16 inverse4x4 of-block (b .loop .b) l _ _ (b .loop .inv .1) (h .0) (sym (b .before .pre .1)) k n)) (all-within l (b .before .pre .2) .each (16 * b .loop .b + k)),
     )
 
 loop-again : tie.Need-loop-again Inv-loop μ-loop
@@ -46,13 +48,13 @@ loop-again c =
     let u = i .before .before .before in
     let b = u .before in
     let s = b .before in
-    (omega arith, block-more (b .loop .b) (s .args .list .now) (s .args .out .now) (b .loop .out) (b .loop .inv .1) (here u .0) (sym (s .pre .1)) (i .invert .last .1 .0) (i .invert .ensures))
+    (omega arith, block-more 16 inverse4x4 of-block (b .loop .b) (s .args .list .now) (s .args .out .now) (b .loop .out) (b .loop .inv .1) (here u .0) (sym (s .pre .1)) (i .invert .last .1 .0) (i .invert .ensures))
 
 same-length : tie.Need-same-length Inv-loop μ-loop
 same-length c =
     let b = c .before in
     let s = b .before in
-    onto-long (16 * b .loop .b) (blockAt (s .args .list .now)) (s .args .out .now) (b .loop .out) (omega (arith, s .pre .1)) (b .loop .inv .1)
+    onto-long (16 * b .loop .b) (blockAt 16 inverse4x4 (s .args .list .now)) (s .args .out .now) (b .loop .out) (omega (arith, s .pre .1)) (b .loop .inv .1)
 
 returns : tie.Need-returns Inv-loop μ-loop
 returns c =
@@ -60,7 +62,7 @@ returns c =
     let s = b .before in
     let l = s .args .list .now in
     let e : 16 * b .loop .b ≡ length l = omega (arith, s .pre .0) in
-    b .loop .inv .1 ∙ ap (λ n. onto n (blockAt l) (s .args .out .now)) e ∙ onto-all (length l) (blockAt l) (s .args .out .now) (sym (s .pre .1))
+    b .loop .inv .1 ∙ ap (λ n. onto n (blockAt 16 inverse4x4 l) (s .args .out .now)) e ∙ onto-all (length l) (blockAt 16 inverse4x4 l) (s .args .out .now) (sym (s .pre .1))
 
 pub invert-all-spec : {M : Type 1} → statement M
 invert-all-spec =

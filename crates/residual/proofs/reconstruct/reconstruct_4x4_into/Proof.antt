@@ -6,10 +6,11 @@ use lib.Dec.{eqb}
 use lib.ListN.{length}
 use Rattle.laws.specs.Answer.{_unless_}
 use Rattle.laws.proofs.Answers.{put, passes}
+use Rattle.laws.proofs.Blockwise.{block-alone}
 use Rattle.residual.specs.Inverse.{inverse4x4}
 use Rattle.residual.specs.Numbers.{allInRange}
 use Rattle.residual.proofs.Rooms.{one-block}
-use Rattle.residual.proofs.Transform.{block-alone}
+use Rattle.residual.proofs.Transform.{of-block}
 use borrow.Author.Needs.{needs}
 use Rattle.residual.proofs.reconstruct.reconstruct_4x4_into.Statement.{statement}
 use Rattle.residual.proofs.reconstruct.reconstruct_4x4_into.Tie as tie
@@ -23,7 +24,7 @@ returns c =
     let e = m .0 ∙ one-block (length l) (allInRange l) in
     let p = g .put-checked .ensures in (
       p .0 (eqb (length l) 16) (allInRange l) e,
-      p .1 (inverse4x4 l) (λ z. m .1 ∙ put _ _ z ∙ block-alone l (eqb-true (length l) 16 (passes 1 (eqb (length l) 16) (8 unless allInRange l ∷ []) (sym e ∙ z) .0))),
+      p .1 (inverse4x4 l) (λ z. m .1 ∙ put _ _ z ∙ block-alone 16 inverse4x4 of-block l (eqb-true (length l) 16 (passes 1 (eqb (length l) 16) (8 unless allInRange l ∷ []) (sym e ∙ z) .0))),
     )
 
 pub reconstruct-4x4-into-spec : {M : Type 1} → statement M

@@ -10,7 +10,7 @@ use Rattle.residual.specs.Inverse.{inverse4x4}
 use Rattle.residual.specs.Numbers.{allInRange}
 use Rattle.residual.specs.Reconstruct.{sums}
 use Rattle.residual.proofs.InRange.{both-within}
-use Rattle.residual.proofs.Rooms.{summable}
+use Rattle.residual.proofs.Rooms.{summable, copied}
 use Rattle.residual.proofs.Transform.{inverse-long, inverse-within}
 use borrow.Author.Needs.{needs}
 use Rattle.residual.proofs.reconstruct.reconstruct_4x4_lists.Statement.{statement}
@@ -26,8 +26,10 @@ facts c =
     let a = c .before .before .before .args in
     summable 16 (a .deq .now) (a .pred .now) (length (a .block .now)) (sym (c .before .sums-answer .ensures) ∙ c .if1 .left)
 
-residuals : (c : tie.After-widen) → let a = c .before .before .before .before .before .before .before .args in c .widen .last .1 .0 ≡ inverse4x4 (a .deq .now)
-residuals c = c .widen .ensures ∙ c .before .before .before .inverse-core .ensures
+residuals : (c : tie.After-widen-all) → let a = c .before .before .before .before .before .before .before .args in c .widen-all .last .1 .0 ≡ inverse4x4 (a .deq .now)
+residuals c =
+    let e = c .before .before .before .inverse-core .ensures in
+    copied _ _ (ap length e ∙ inverse-long _) (c .widen-all .ensures .0) (c .widen-all .ensures .1) .1 ∙ e
 
 inverse-core-requires : tie.Need-inverse-core-requires
 inverse-core-requires c κs = let s = facts c in (s .1, and-left _ _ (s .4))

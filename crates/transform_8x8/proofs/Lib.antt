@@ -1,0 +1,4 @@
+-- The laws about this crate's definitions.
+pub mod Bounded
+pub mod Columns
+pub mod Eights

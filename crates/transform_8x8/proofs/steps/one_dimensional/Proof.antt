@@ -1,0 +1,55 @@
+-- `transform_8x8::steps::one_dimensional` meets its contract: each step's numbers are within what the next one asks. Assumes nothing.
+use mathlib.Core.Path.{_≡_, sym, ap, _∙_, subst}
+use mathlib.Core.List.{List, [], _∷_}
+use lib.IntN.{ℤ}
+use Rattle.laws.specs.Range.{AllWithin, at}
+use Rattle.transform_8x8.specs.Inverse8x8.{firstStep, secondStep, thirdStep}
+use Rattle.transform_8x8.proofs.Bounded.{first-all, second-all}
+use Rattle.transform_8x8.proofs.Eights.{words-within, first-words, second-words, third-words}
+use borrow.Author.Needs.{needs}
+use Rattle.transform_8x8.proofs.steps.one_dimensional.Statement.{statement}
+use Rattle.transform_8x8.proofs.steps.one_dimensional.Tie as tie
+
+-- the eight numbers that are given
+abbrev given : tie.Start → List ℤ
+given u = let a = u .args in a .d0 ∷ a .d1 ∷ a .d2 ∷ a .d3 ∷ a .d4 ∷ a .d5 ∷ a .d6 ∷ a .d7 ∷ []
+
+-- the numbers after the first step, and after the second
+first-is : (c : tie.After-first-step) → c .first-step .result ≡ firstStep (at (given (c .before)))
+first-is c = c .first-step .ensures ∙ first-words 258048 (at (given (c .before))) tt (c .before .pre .each)
+
+after-first : (c : tie.After-first-step) → AllWithin 903168 (c .first-step .result)
+after-first c = subst (AllWithin 903168) (sym (first-is c)) (first-all 32256 (at (given (c .before))) (c .before .pre .each))
+
+second-is : (c : tie.After-second-step) → let f = c .before .before .before .before .before .before .before .before .before in
+    c .second-step .result ≡ secondStep (at (f .first-step .result))
+second-is c =
+    let f = c .before .before .before .before .before .before .before .before .before in
+    c .second-step .ensures ∙ second-words 903168 (at (f .first-step .result)) tt (after-first f .each)
+
+after-second : (c : tie.After-second-step) → AllWithin 1128960 (c .second-step .result)
+after-second c =
+    let f = c .before .before .before .before .before .before .before .before .before in
+    subst (AllWithin 1128960) (sym (second-is c ∙ ap (λ e. secondStep (at e)) (first-is f))) (second-all 32256 (at (given (f .before))) (f .before .pre .each))
+
+second-step-requires : tie.Need-second-step-requires
+second-step-requires c κs =
+    let f = c .before .before .before .before .before .before .before .before in
+    words-within 903168 (at (f .first-step .result)) tt (after-first f .each)
+
+third-step-requires : tie.Need-third-step-requires
+third-step-requires c κs =
+    let s = c .before .before .before .before .before .before .before .before in
+    words-within 1128960 (at (s .second-step .result)) tt (after-second s .each)
+
+returns : tie.Need-returns
+returns c =
+    let s = c .before .before .before .before .before .before .before .before .before in
+    let f = s .before .before .before .before .before .before .before .before .before in
+    c .third-step .ensures ∙ third-words 1128960 (at (s .second-step .result)) tt (after-second s .each)
+    ∙ ap (λ e. thirdStep (at e)) (second-is s ∙ ap (λ e. secondStep (at e)) (first-is f))
+
+pub one-dimensional-spec : {M : Type 1} → statement M
+one-dimensional-spec =
+    tie.close
+    (tie.spec (λ c κs. search needs) (λ c. search needs) (λ c. search needs) (λ c. search needs) (λ c. search needs) (λ c. search needs) (λ c. search needs) (λ c. search needs) (λ c. search needs) second-step-requires (λ c. search needs) (λ c. search needs) (λ c. search needs) (λ c. search needs) (λ c. search needs) (λ c. search needs) (λ c. search needs) (λ c. search needs) third-step-requires returns)

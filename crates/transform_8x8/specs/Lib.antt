@@ -1,0 +1,4 @@
+-- The definitions that the crate's contracts cite.
+pub mod Bounds
+pub mod Inverse8x8
+pub mod inner
