@@ -6,7 +6,7 @@ use mathlib.Core.List.{List, [], _∷_, _++_, map}
 use Prim.Native.Nat.{ℕ, _+_, _-_, _*_}
 use lib.IntN.{ℤ, pos}
 use lib.ListN.{replicate, set}
-use Rattle.laws.specs.Range.{minus}
+use Rattle.laws.specs.Range.{minus, at}
 use Rattle.laws.specs.Table.{table, sumOf, sumZ}
 use Rattle.basics.specs.Clip.{Clip1}
 use Rattle.samples.specs.Intra16x16.{predL}
@@ -76,6 +76,15 @@ lone v = set (replicate 16 (pos 0)) 0 v
 abbrev lone8x8 : ℕ → ℤ → List ℤ
 lone8x8 k v = set (replicate 64 (pos 0)) k v
 
+-- the block that reaches every bound of the 8x8 inverse (transform_8x8/specs/Bounds): a value of each step, and a residual
+abbrev lowest : List ℤ
+lowest = replicate 64 (minus 32768)
+
+abbrev extremes : List ℤ
+extremes =
+    at (eRow lowest 0) 7 ∷ at (fRow lowest 0) 7 ∷ at (gRow lowest 0) 0 ∷ at (hColumn lowest 0) 7 ∷ at (kColumn lowest 0) 7 ∷ at (mColumn lowest 0) 0
+    ∷ at (inverse8x8 lowest) 0 ∷ []
+
 -- a row of residuals that falls through 0, and one that rises
 abbrev falls : ℕ → ℕ → ℕ → ℕ → List ℤ
 falls a b c d = pos a ∷ pos b ∷ pos c ∷ pos d ∷ minus d ∷ minus c ∷ minus b ∷ minus a ∷ []
@@ -112,6 +121,7 @@ figures =
     ∷ inverse8x8 (lone8x8 0 (pos 31)) leaves replicate 64 (pos 0) ∷ inverse8x8 (lone8x8 0 (minus 33)) leaves replicate 64 (minus 1)
     ∷ inverse8x8 (lone8x8 9 (pos 91))
     leaves (falls 3 3 2 1 ++ falls 3 2 1 1 ++ falls 2 1 1 0 ++ falls 1 1 0 0 ++ rises 1 1 0 0 ++ rises 2 1 1 0 ++ rises 3 2 1 1 ++ rises 3 3 2 1)
+    ∷ extremes leaves (minus 114688 ∷ minus 126976 ∷ minus 241664 ∷ minus 845824 ∷ minus 936448 ∷ minus 1782272 ∷ minus 27848 ∷ [])
     ∷ (QPc 29 ∷ QPc 30 ∷ QPc 51 ∷ []) gives (29 ∷ 29 ∷ 39 ∷ [])
     ∷ lasts 4 pred4x4L full gives (60 ∷ 40 ∷ []) ∷ lasts 8 pred8x8L (wide (80 ∷ replicate 7 160)) gives (160 ∷ 78 ∷ [])
     ∷ straight (wide (80 ∷ [])) gives (78 ∷ 78 ∷ []) ∷ straight (wide (90 ∷ [])) gives (80 ∷ 78 ∷ [])

@@ -84,7 +84,10 @@ part-blocks l n first b x y h room =
     ∙ ap (at l) (let e : 16 * first + (16 * (b - first) + i) ≡ 16 * b + i = omega arith in e)))
 
 -- the first 256 numbers transformed in 64s, and those from block 16 on in sixteens, each put through its own part of `out`
-module _ (l out xs m ys : List ℤ) (long : length l ≡ 384) (room : length out ≡ 384) (front : xs ≡ blockwise 64 inverse8x8 (take 256 l)) (first : m ≡ xs ++ drop 256 out) where
+module _ (l out xs : List ℤ) (long : length l ≡ 384) (room : length out ≡ 384) (front : xs ≡ blockwise 64 inverse8x8 (take 256 l)) where
+  abbrev m : List ℤ
+  m = xs ++ drop 256 out
+
   head-long : length (take 256 l) ≡ 256
   head-long = length-take 256 l ∙ omega arith
 
@@ -92,14 +95,16 @@ module _ (l out xs m ys : List ℤ) (long : length l ≡ 384) (room : length out
   xs-long = ap length front ∙ length-table (pos 0) (length (take 256 l)) _ ∙ head-long
 
   pub kept-long : length m ≡ 384
-  kept-long = ap length first ∙ simp (length-append, length-drop) (omega (arith, xs-long))
+  kept-long = simp (length-append, length-drop) (omega (arith, xs-long))
 
-  module _ (e : ys ≡ blockwise 16 inverse4x4 (midOf 256 (length l - 256) l)) where
-    rest-long : length ys ≡ 128
-    rest-long = ap length e ∙ length-table (pos 0) (length (midOf 256 (length l - 256) l)) _ ∙ length-take (length l - 256) (drop 256 l) ∙ omega (arith, length-drop 256 l)
-
+  module _ (ys : List ℤ) (e : ys ≡ blockwise 16 inverse4x4 (midOf 256 (length l - 256) l)) where
     abbrev k : ℕ
     k = length m - 256
+
+    rest-long : length ys ≡ 128
+    rest-long =
+        ap length e ∙ length-table (pos 0) (length (midOf 256 (length l - 256) l)) _
+        ∙ length-take (length l - 256) (drop 256 l) ∙ omega (arith, length-drop 256 l)
 
     head : length (take 256 m) ≡ 256
     head = length-take 256 m ∙ omega (arith, kept-long)
@@ -108,7 +113,7 @@ module _ (l out xs m ys : List ℤ) (long : length l ≡ 384) (room : length out
     early : (i : ℕ) → i < 256 → at (putMid 256 k m ys) i ≡ at (blockwise 64 inverse8x8 (take 256 l)) i
     early i h =
         List·getD-append (take 256 m) (ys ++ postOf 256 k m) (pos 0) i (omega (arith, head)) ∙ getD-take 256 m i (pos 0) h
-        ∙ ap (λ t. at t i) first ∙ List·getD-append xs (drop 256 out) (pos 0) i (omega (arith, xs-long)) ∙ ap (λ t. at t i) front
+        ∙ List·getD-append xs (drop 256 out) (pos 0) i (omega (arith, xs-long)) ∙ ap (λ t. at t i) front
 
     late : (i j : ℕ) → i ≡ 256 + j → j < 128 → at (putMid 256 k m ys) i ≡ at (blockwise 16 inverse4x4 (midOf 256 (length l - 256) l)) j
     late i j n h =
@@ -116,7 +121,7 @@ module _ (l out xs m ys : List ℤ) (long : length l ≡ 384) (room : length out
         ap (at (putMid 256 k m ys)) at-j ∙ getD-append-add (take 256 m) (ys ++ postOf 256 k m) j (pos 0)
         ∙ List·getD-append ys (postOf 256 k m) (pos 0) j (omega (arith, rest-long)) ∙ ap (λ t. at t j) e
 
-    pub both-transformed : Transformed 16 l (putMid 256 (length m - 256) m ys)
+    pub both-transformed : Transformed 16 l (putMid 256 k m ys)
     both-transformed = record {
       before = λ b x y h hx hy.
           early (64 * b + (8 * y + x)) (omega arith) ∙ blocks-8x8-at (take 256 l) b x y (omega (arith, head-long)) hx hy ∙ front-blocks l b x y (omega arith);

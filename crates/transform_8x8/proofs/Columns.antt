@@ -32,7 +32,8 @@ module _ (f : ℕ → ℤ) (old : List ℤ) where
     kept = λ k h. getD-set-other l (8 * i + j) k v (pos 0) (omega arith) ∙ b .kept k h;
   }
     where
-      place : (i′ j′ : ℕ) → i′ < 8 → j′ < 8 → 8 * j′ + i′ < 8 * j + (i + 1) → Dec (8 * i + j ≡ 8 * i′ + j′) → at (set l (8 * i + j) v) (8 * i′ + j′) ≡ f (8 * i′ + j′)
+      place : (i′ j′ : ℕ) → i′ < 8 → j′ < 8 → 8 * j′ + i′ < 8 * j + (i + 1) → Dec (8 * i + j ≡ 8 * i′ + j′)
+          → at (set l (8 * i + j) v) (8 * i′ + j′) ≡ f (8 * i′ + j′)
       place i′ j′ hi′ hj′ h (yes p) =
           subst (λ (n : ℕ). at (set l (8 * i + j) v) n ≡ f n) p (getD-set-same l (8 * i + j) v (pos 0) (omega arith) ∙ e)
       place i′ j′ hi′ hj′ h (no p) = getD-set-other l (8 * i + j) (8 * i′ + j′) v (pos 0) (omega arith) ∙ b .put i′ j′ hi′ hj′ (omega arith)

@@ -30,6 +30,14 @@ eight-within {k} {a} {b} {c} {d} {e} {f} {g} {h} wa wb wc wd we wf wg wh = recor
     places (suc (suc (suc (suc (suc (suc (suc zero))))))) = wh
     places (suc (suc (suc (suc (suc (suc (suc (suc n)))))))) = record { within = omega arith }
 
+-- the other way, for a search, which reads no list
+abbrev pub Each : ℕ → List ℤ → Type 0
+Each k l =
+    Within k (at l 0) × Within k (at l 1) × Within k (at l 2) × Within k (at l 3) × Within k (at l 4) × Within k (at l 5) × Within k (at l 6) × Within k (at l 7)
+
+pub each-within : {k : ℕ} {l : List ℤ} → AllWithin k l → Each k l
+each-within w = (w .each 0, w .each 1, w .each 2, w .each 3, w .each 4, w .each 5, w .each 6, w .each 7)
+
 -- ---- eight numbers, as the machine reads them
 abbrev pub eight : (ℕ → ℤ) → List ℤ
 eight f = f 0 ∷ f 1 ∷ f 2 ∷ f 3 ∷ f 4 ∷ f 5 ∷ f 6 ∷ f 7 ∷ []

@@ -65,7 +65,7 @@ fn put_row(g: &mut [i32], i: usize, v: [i32; 8])
 
 // The columns of the transformed rows, transformed and rounded.
 fn columns(g: &[i32], out: &mut [i16])
-    requires { ⌜ (length (now g) ≡ 64) × AllWithin 258048 (now g) × (64 ≤ length (now out)) ⌝ }
+    requires { ⌜ (length (now g) ≡ 64) × AllWithin 241664 (now g) × (64 ≤ length (now out)) ⌝ }
     ensures { λ _. ⌜ now (out .exit) ≡ onto 64 (columnAt (now (g .entry))) (now (out .entry)) ⌝ }
 {
     for j in 0..8 {
@@ -75,7 +75,7 @@ fn columns(g: &[i32], out: &mut [i16])
 
 // Column `j`, transformed.
 fn column(g: &[i32], j: usize) -> [i32; 8]
-    requires { ⌜ (length (now g) ≡ 64) × AllWithin 258048 (now g) × (j < 8) ⌝ }
+    requires { ⌜ (length (now g) ≡ 64) × AllWithin 241664 (now g) × (j < 8) ⌝ }
     ensures { λ r. ⌜ r ≡ oneDimensional (λ i. at (now (g .entry)) (8 * i + j)) ⌝ }
 {
     one_dimensional(
@@ -92,7 +92,7 @@ fn column(g: &[i32], j: usize) -> [i32; 8]
 
 // Column `j` of a block put from eight numbers, each rounded to a residual.
 fn put_column(out: &mut [i16], j: usize, m: [i32; 8])
-    requires { ⌜ (64 ≤ length (now out)) × (j < 8) × AllWithin 2032128 m ⌝ }
+    requires { ⌜ (64 ≤ length (now out)) × (j < 8) × AllWithin 1782272 m ⌝ }
     ensures { λ _. ⌜ ((f : ℕ → ℤ) (l : List ℤ) → ((i : ℕ) → i < 8 → rounded (at m i) ≡ f (8 * i + j))
         → ByColumn f l (8 * j) (now (out .entry)) → ByColumn f l (8 * j + 8) (now (out .exit))) ⌝ }
 {
@@ -103,7 +103,7 @@ fn put_column(out: &mut [i16], j: usize, m: [i32; 8])
 
 // A number of the second pass, rounded to a residual.
 fn round(m: i32) -> i16
-    requires { ⌜ Within 2032128 m ⌝ }
+    requires { ⌜ Within 1782272 m ⌝ }
     ensures { λ r. ⌜ r ≡ rounded m ⌝ }
 {
     ((m + 32) >> 6) as i16

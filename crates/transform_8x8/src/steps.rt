@@ -15,7 +15,7 @@ pub(crate) fn one_dimensional(
     d6: i32,
     d7: i32,
 ) -> [i32; 8]
-    requires { ⌜ AllWithin 258048 (d0 ∷ d1 ∷ d2 ∷ d3 ∷ d4 ∷ d5 ∷ d6 ∷ d7 ∷ []) ⌝ }
+    requires { ⌜ AllWithin 241664 (d0 ∷ d1 ∷ d2 ∷ d3 ∷ d4 ∷ d5 ∷ d6 ∷ d7 ∷ []) ⌝ }
     ensures { λ r. ⌜ r ≡ oneDimensional (at (d0 ∷ d1 ∷ d2 ∷ d3 ∷ d4 ∷ d5 ∷ d6 ∷ d7 ∷ [])) ⌝ }
 {
     let e = first_step(d0, d1, d2, d3, d4, d5, d6, d7);
@@ -24,7 +24,7 @@ pub(crate) fn one_dimensional(
 }
 
 fn first_step(d0: i32, d1: i32, d2: i32, d3: i32, d4: i32, d5: i32, d6: i32, d7: i32) -> [i32; 8]
-    requires { ⌜ AllWithin 258048 (d0 ∷ d1 ∷ d2 ∷ d3 ∷ d4 ∷ d5 ∷ d6 ∷ d7 ∷ []) ⌝ }
+    requires { ⌜ AllWithin 241664 (d0 ∷ d1 ∷ d2 ∷ d3 ∷ d4 ∷ d5 ∷ d6 ∷ d7 ∷ []) ⌝ }
     ensures { λ r. ⌜ r ≡ firstStep (at (d0 ∷ d1 ∷ d2 ∷ d3 ∷ d4 ∷ d5 ∷ d6 ∷ d7 ∷ [])) ⌝ }
 {
     let e0 = d0 + d4;
@@ -39,7 +39,7 @@ fn first_step(d0: i32, d1: i32, d2: i32, d3: i32, d4: i32, d5: i32, d6: i32, d7:
 }
 
 fn second_step(e0: i32, e1: i32, e2: i32, e3: i32, e4: i32, e5: i32, e6: i32, e7: i32) -> [i32; 8]
-    requires { ⌜ AllWithin 903168 (e0 ∷ e1 ∷ e2 ∷ e3 ∷ e4 ∷ e5 ∷ e6 ∷ e7 ∷ []) ⌝ }
+    requires { ⌜ AllWithin 845824 (e0 ∷ e1 ∷ e2 ∷ e3 ∷ e4 ∷ e5 ∷ e6 ∷ e7 ∷ []) ⌝ }
     ensures { λ r. ⌜ r ≡ secondStep (at (e0 ∷ e1 ∷ e2 ∷ e3 ∷ e4 ∷ e5 ∷ e6 ∷ e7 ∷ [])) ⌝ }
 {
     let f0 = e0 + e6;
@@ -54,7 +54,7 @@ fn second_step(e0: i32, e1: i32, e2: i32, e3: i32, e4: i32, e5: i32, e6: i32, e7
 }
 
 fn third_step(f0: i32, f1: i32, f2: i32, f3: i32, f4: i32, f5: i32, f6: i32, f7: i32) -> [i32; 8]
-    requires { ⌜ AllWithin 1128960 (f0 ∷ f1 ∷ f2 ∷ f3 ∷ f4 ∷ f5 ∷ f6 ∷ f7 ∷ []) ⌝ }
+    requires { ⌜ AllWithin 936448 (f0 ∷ f1 ∷ f2 ∷ f3 ∷ f4 ∷ f5 ∷ f6 ∷ f7 ∷ []) ⌝ }
     ensures { λ r. ⌜ r ≡ thirdStep (at (f0 ∷ f1 ∷ f2 ∷ f3 ∷ f4 ∷ f5 ∷ f6 ∷ f7 ∷ [])) ⌝ }
 {
     let g0 = f0 + f7;

@@ -1,6 +1,6 @@
 -- `macroblock::residuals::residuals_of` meets its contract: of kind 1 the first 256 numbers are transformed in 64s and the
 -- others in sixteens, else all in sixteens. Assumes nothing.
-use mathlib.Core.Path.{_≡_, refl, sym, ap, _∙_}
+use mathlib.Core.Path.{_≡_, sym, ap, _∙_}
 use mathlib.Core.List.{List, [], _∷_, _++_}
 use Prim.Native.Nat.{_-_}
 use native.Mathlib.Omega.{arith}
@@ -26,7 +26,8 @@ fronted c =
     let u = c .before .before .before .before in
     let l = u .args .numbers .now in
     let o = u .args .out .now in
-    blocks-answer 64 (take 256 l) (length (take 256 o)) _ (omega (arith, length-take 256 l, u .pre .0)) (omega (arith, length-take 256 l, length-take 256 o, u .pre .0, u .pre .1)) (c .inverse-8x8-blocks .ensures .0)
+    blocks-answer 64 (take 256 l) (length (take 256 o)) _ (omega (arith, length-take 256 l, u .pre .0))
+    (omega (arith, length-take 256 l, length-take 256 o, u .pre .0, u .pre .1)) (c .inverse-8x8-blocks .ensures .0)
 
 returns : tie.Need-returns
 returns c =
@@ -48,10 +49,13 @@ returns-2 c =
     let o = u .args .out .now in
     let long = chroma-long l (u .pre .0) in
     let xs = n .inverse-8x8-blocks .last .1 .0 in
-    let front = n .inverse-8x8-blocks .ensures .1 ∙ put _ _ (z .if2 .left) in (
-      blocks-answer 16 (take (length l - 256) (drop 256 l)) _ _ (omega (arith, long)) (long ∙ sym (chroma-long (xs ++ drop 256 o) (kept-long l o xs _ (p .inverse-blocks .last .1 .0) (u .pre .0) (u .pre .1) front refl))) (p .inverse-blocks .ensures .0)
+    let front = n .inverse-8x8-blocks .ensures .1 ∙ put _ _ (z .if2 .left) in
+    let kept = kept-long l o xs (u .pre .0) (u .pre .1) front in (
+      blocks-answer 16 (take (length l - 256) (drop 256 l)) _ _ (omega (arith, long)) (long ∙ sym (chroma-long (xs ++ drop 256 o) kept))
+          (p .inverse-blocks .ensures .0)
           ∙ ap (λ b. answer (8 unless b ∷ [])) (rest-decides 256 l (passes 7 (allInRange (take 256 l)) [] (sym (fronted n) ∙ z .if2 .left) .0)),
-      λ e. kind-one (u .args .kind) (omega (arith, n .before .before .before .if1 .taken)) (both-transformed l o xs _ (p .inverse-blocks .last .1 .0) (u .pre .0) (u .pre .1) front refl (p .inverse-blocks .ensures .1 ∙ put _ _ e)),
+      λ e. kind-one (u .args .kind) (omega (arith, n .before .before .before .if1 .taken))
+          (both-transformed l o xs (u .pre .0) (u .pre .1) front (p .inverse-blocks .last .1 .0) (p .inverse-blocks .ensures .1 ∙ put _ _ e)),
     )
 
 returns-3 : tie.Need-returns-3

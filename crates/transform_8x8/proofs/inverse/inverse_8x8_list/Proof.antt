@@ -51,4 +51,5 @@ returns-4 c =
 pub inverse-8x8-list-spec : {M : Type 1} → statement M
 inverse-8x8-list-spec =
     tie.close
-    (tie.spec returns returns-2 (λ c κs. search needs) returns-3 (λ c. search needs) invert-requires (λ c. search needs) (λ c κs. search needs) (λ c. search needs) returns-4)
+    (tie.spec returns returns-2 (λ c κs. search needs) returns-3 (λ c. search needs) invert-requires (λ c. search needs) (λ c κs. search needs)
+    (λ c. search needs) returns-4)

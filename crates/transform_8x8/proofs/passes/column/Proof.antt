@@ -25,15 +25,18 @@ reads u = ap (λ n. word (at (u .args .g .now) n) ∷ rest u) (sym (zero-add (u 
 one-dimensional-requires : tie.Need-one-dimensional-requires
 one-dimensional-requires c κs =
     let u = c .before .before .before .before .before .before .before .before in
-    subst (AllWithin 258048) (sym (reads u)) (words-within 258048 (numbers u) tt (λ i. u .pre .1 .each (8 * i + u .args .j)))
+    subst (AllWithin 241664) (sym (reads u)) (words-within 241664 (numbers u) tt (λ i. u .pre .1 .each (8 * i + u .args .j)))
 
 returns : tie.Need-returns
 returns c =
     let u = c .before .before .before .before .before .before .before .before .before in
     c .one-dimensional .ensures ∙ ap (λ l. oneDimensional (at l)) (reads u)
-    ∙ all-words 258048 (numbers u) tt (λ i. u .pre .1 .each (8 * i + u .args .j))
+    ∙ all-words 241664 (numbers u) tt (λ i. u .pre .1 .each (8 * i + u .args .j))
 
 pub column-spec : {M : Type 1} → statement M
 column-spec =
     tie.close
-    (tie.spec (λ c. search needs) (λ c. search needs) (λ c. search needs) (λ c. search needs) (λ c. search needs) (λ c. search needs) (λ c. search needs) (λ c. search needs) (λ c. search needs) (λ c. search needs) (λ c. search needs) (λ c. search needs) (λ c. search needs) (λ c. search needs) (λ c. search needs) (λ c. search needs) (λ c. search needs) (λ c. search needs) (λ c. search needs) (λ c. search needs) (λ c. search needs) (λ c. search needs) (λ c. search needs) one-dimensional-requires returns)
+    (tie.spec (λ c. search needs) (λ c. search needs) (λ c. search needs) (λ c. search needs) (λ c. search needs) (λ c. search needs)
+    (λ c. search needs) (λ c. search needs) (λ c. search needs) (λ c. search needs) (λ c. search needs) (λ c. search needs) (λ c. search needs)
+    (λ c. search needs) (λ c. search needs) (λ c. search needs) (λ c. search needs) (λ c. search needs) (λ c. search needs) (λ c. search needs)
+    (λ c. search needs) (λ c. search needs) (λ c. search needs) one-dimensional-requires returns)

@@ -36,7 +36,7 @@ put-column-requires c κs =
     let u = b .before in (
       omega (arith, b .loop .inv .1 .long, u .pre .2),
       omega arith,
-      subst (AllWithin 2032128) (sym (c .column .ensures)) (third-all 32256 _ (λ i. u .pre .1 .each (8 * i + b .loop .j))),
+      subst (AllWithin 1782272) (sym (c .column .ensures)) (third-all 30208 _ (λ i. u .pre .1 .each (8 * i + b .loop .j))),
     )
 
 loop-again : tie.Need-loop-again Inv-loop μ-loop
@@ -67,4 +67,5 @@ returns c =
 pub columns-spec : {M : Type 1} → statement M
 columns-spec =
     tie.close
-    (tie.spec Inv-loop μ-loop loop-holds (λ c κs. search needs) put-column-requires (λ c. search needs) (λ c. search needs) loop-again same-length returns)
+    (tie.spec Inv-loop μ-loop loop-holds (λ c κs. search needs) put-column-requires (λ c. search needs) (λ c. search needs) loop-again same-length
+    returns)

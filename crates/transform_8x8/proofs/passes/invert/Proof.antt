@@ -21,7 +21,7 @@ columns-requires c κs =
     let u = r .before in
     let d = u .args .d .now in (
       ap length (r .rows .ensures) ∙ length-table (pos 0) 64 (rowAt d),
-      subst (AllWithin 258048) (sym (r .rows .ensures)) (within-table 258048 64 (rowAt d) (λ k. bounds d (u .pre .2) .g (k / 8) .each (k % 8))),
+      subst (AllWithin 241664) (sym (r .rows .ensures)) (within-table 241664 64 (rowAt d) (λ k. bounds d (u .pre .2) .g (k / 8) .each (k % 8))),
       u .pre .1,
     )
 

@@ -28,7 +28,7 @@ loop-holds : tie.Need-loop-holds Inv-loop μ-loop
 loop-holds c = (omega arith, refl, λ f l same b. by-at f l (sym (add-zero (8 * c .args .j))) b)
 
 round-requires : tie.Need-round-requires Inv-loop μ-loop
-round-requires c κs = let b = c .before .before in within-back 2032128 _ tt (b .before .pre .2 .each (b .loop .i))
+round-requires c κs = let b = c .before .before in within-back 1782272 _ tt (b .before .pre .2 .each (b .loop .i))
 
 loop-again : tie.Need-loop-again Inv-loop μ-loop
 loop-again c =
@@ -39,7 +39,7 @@ loop-again c =
       omega arith,
       length-set (b .loop .out) (8 * i + j) _ ∙ b .loop .inv .1,
       λ f l same e. by-more f l i j (omega arith) (u .pre .1) (omega (arith, u .pre .0, b .loop .inv .1))
-          (column-at (c .round .ensures) (within-more 2032128 2097088 _ (u .pre .2 .each i) tt) ∙ same i (omega arith)) (b .loop .inv .2 f l same e),
+          (column-at (c .round .ensures) (within-more 1782272 2097088 _ (u .pre .2 .each i) tt) ∙ same i (omega arith)) (b .loop .inv .2 f l same e),
     )
 
 same-length : tie.Need-same-length Inv-loop μ-loop
@@ -54,4 +54,5 @@ returns c f l same e =
 pub put-column-spec : {M : Type 1} → statement M
 put-column-spec =
     tie.close
-    (tie.spec Inv-loop μ-loop loop-holds (λ c. search needs) (λ c. search needs) round-requires (λ c. search needs) (λ c. search needs) (λ c. search needs) (λ c. search needs) (λ c. search needs) (λ c. search needs) loop-again same-length returns)
+    (tie.spec Inv-loop μ-loop loop-holds (λ c. search needs) (λ c. search needs) round-requires (λ c. search needs) (λ c. search needs)
+    (λ c. search needs) (λ c. search needs) (λ c. search needs) (λ c. search needs) loop-again same-length returns)

@@ -17,8 +17,8 @@ use Rattle.transform_8x8.proofs.passes.row.Tie as tie
 abbrev numbers : tie.Start → ℕ → ℤ
 numbers u j = at (u .args .d .now) (8 * u .args .i + j)
 
-small : (u : tie.Start) (j : ℕ) → Within 258048 (numbers u j)
-small u j = within-more 32768 258048 _ (all-within (u .args .d .now) (u .pre .1) .each (8 * u .args .i + j)) tt
+small : (u : tie.Start) (j : ℕ) → Within 241664 (numbers u j)
+small u j = within-more 32768 241664 _ (all-within (u .args .d .now) (u .pre .1) .each (8 * u .args .i + j)) tt
 
 -- what is read: the first number's place is written without the 0
 abbrev rest : tie.Start → List ℤ
@@ -30,15 +30,18 @@ reads u = ap (λ n. word (at (u .args .d .now) n) ∷ rest u) (sym (add-zero (8 
 one-dimensional-requires : tie.Need-one-dimensional-requires
 one-dimensional-requires c κs =
     let u = c .before .before .before .before .before .before .before .before in
-    subst (AllWithin 258048) (sym (reads u)) (words-within 258048 (numbers u) tt (small u))
+    subst (AllWithin 241664) (sym (reads u)) (words-within 241664 (numbers u) tt (small u))
 
 returns : tie.Need-returns
 unfolding eRow fRow gRow
 returns c =
     let u = c .before .before .before .before .before .before .before .before .before in
-    c .one-dimensional .ensures ∙ ap (λ l. oneDimensional (at l)) (reads u) ∙ all-words 258048 (numbers u) tt (small u)
+    c .one-dimensional .ensures ∙ ap (λ l. oneDimensional (at l)) (reads u) ∙ all-words 241664 (numbers u) tt (small u)
 
 pub row-spec : {M : Type 1} → statement M
 row-spec =
     tie.close
-    (tie.spec (λ c. search needs) (λ c. search needs) (λ c. search needs) (λ c. search needs) (λ c. search needs) (λ c. search needs) (λ c. search needs) (λ c. search needs) (λ c. search needs) (λ c. search needs) (λ c. search needs) (λ c. search needs) (λ c. search needs) (λ c. search needs) (λ c. search needs) (λ c. search needs) (λ c. search needs) (λ c. search needs) (λ c. search needs) (λ c. search needs) (λ c. search needs) (λ c. search needs) (λ c. search needs) (λ c. search needs) one-dimensional-requires returns)
+    (tie.spec (λ c. search needs) (λ c. search needs) (λ c. search needs) (λ c. search needs) (λ c. search needs) (λ c. search needs)
+    (λ c. search needs) (λ c. search needs) (λ c. search needs) (λ c. search needs) (λ c. search needs) (λ c. search needs) (λ c. search needs)
+    (λ c. search needs) (λ c. search needs) (λ c. search needs) (λ c. search needs) (λ c. search needs) (λ c. search needs) (λ c. search needs)
+    (λ c. search needs) (λ c. search needs) (λ c. search needs) (λ c. search needs) one-dimensional-requires returns)

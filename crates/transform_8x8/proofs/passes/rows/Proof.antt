@@ -63,4 +63,5 @@ returns c =
 pub rows-spec : {M : Type 1} → statement M
 rows-spec =
     tie.close
-    (tie.spec Inv-loop μ-loop loop-holds slice-aggregate-put-row (λ c κs. search needs) put-row-requires (λ c. search needs) (λ c. search needs) loop-again returns)
+    (tie.spec Inv-loop μ-loop loop-holds slice-aggregate-put-row (λ c κs. search needs) put-row-requires (λ c. search needs) (λ c. search needs)
+    loop-again returns)

@@ -2,25 +2,15 @@
 use mathlib.Core.Path.{_≡_, ap, _∙_}
 use lib.IntN.{ℤ, pos, negℤ, _+ℤ_, _-ℤ_, +ℤ-idl}
 use lib.Signed.{shrZ}
-use mir.Syntax.{w32}
-use mir.Val.{toZ, ofZ}
 use Rattle.laws.specs.Range.{Within}
 use Rattle.laws.proofs.Ints.{ints}
 use Rattle.transform_8x8.specs.Inverse8x8.{firstStep}
-use Rattle.transform_8x8.proofs.Eights.{eight-is}
+use Rattle.transform_8x8.proofs.Eights.{each-within, eight-is, word}
 use Rattle.transform_8x8.proofs.steps.first_step.Statement.{statement}
 use Rattle.transform_8x8.proofs.steps.first_step.Tie as tie
 
--- each of the eight numbers
-within : (c : tie.Start) → Within 258048 (c .args .d0) × Within 258048 (c .args .d1) × Within 258048 (c .args .d2) × Within 258048 (c .args .d3) × Within 258048 (c .args .d4) × Within 258048 (c .args .d5) × Within 258048 (c .args .d6) × Within 258048 (c .args .d7)
-within c = (c .pre .each 0, c .pre .each 1, c .pre .each 2, c .pre .each 3, c .pre .each 4, c .pre .each 5, c .pre .each 6, c .pre .each 7)
-
--- what the machine holds
-abbrev word : ℤ → ℤ
-word z = toZ w32 (ofZ w32 z)
-
 -- the eight expressions as the machine computes them; it takes a number from 0 to negate it
-module _ (a b c : ℤ) (wa : Within 258048 a) (wb : Within 258048 b) where
+module _ (a b : ℤ) (wa : Within 241664 a) (wb : Within 241664 b) where
   plus : word (word a +ℤ word b) ≡ a +ℤ b
   plus = search ints depth 20
 
@@ -33,7 +23,7 @@ module _ (a b c : ℤ) (wa : Within 258048 a) (wb : Within 258048 b) where
   plus-half : word (word a +ℤ word (shrZ (word b) 2)) ≡ a +ℤ shrZ b 2
   plus-half = search ints depth 20
 
-  module _ (wc : Within 258048 c) where
+  module _ (c : ℤ) (wc : Within 241664 c) where
     one : word (word (word (word (pos 0 -ℤ word a) +ℤ word b) -ℤ word c) -ℤ word (shrZ (word c) 2)) ≡ negℤ a +ℤ b -ℤ c -ℤ shrZ c 2
     one = _∙_ {b = pos 0 -ℤ a +ℤ b -ℤ c -ℤ shrZ c 2} (search ints depth 20) (ap (λ z. z +ℤ b -ℤ c -ℤ shrZ c 2) (+ℤ-idl (negℤ a)))
 
@@ -50,16 +40,26 @@ returns : tie.Need-returns
 unfolding firstStep
 returns c =
     let a = c .args in
-    let (w0, w1, w2, w3, w4, w5, w6, w7) = within c in
+    let (w0, w1, w2, w3, w4, w5, w6, w7) = each-within (c .pre) in
     eight-is
-    (plus (a .d0) (a .d4) (a .d0) w0 w4)
-    (one (a .d3) (a .d5) (a .d7) w3 w5 w7)
-    (less (a .d0) (a .d4) (a .d0) w0 w4)
-    (three (a .d1) (a .d7) (a .d3) w1 w7 w3)
-    (half-less (a .d2) (a .d6) (a .d2) w2 w6)
-    (five (a .d1) (a .d7) (a .d5) w1 w7 w5)
-    (plus-half (a .d2) (a .d6) (a .d2) w2 w6)
-    (seven (a .d3) (a .d5) (a .d1) w3 w5 w1)
+    (plus (a .d0) (a .d4) w0 w4)
+    (one (a .d3) (a .d5) w3 w5 (a .d7) w7)
+    (less (a .d0) (a .d4) w0 w4)
+    (three (a .d1) (a .d7) w1 w7 (a .d3) w3)
+    (half-less (a .d2) (a .d6) w2 w6)
+    (five (a .d1) (a .d7) w1 w7 (a .d5) w5)
+    (plus-half (a .d2) (a .d6) w2 w6)
+    (seven (a .d3) (a .d5) w3 w5 (a .d1) w1)
 
 pub first-step-spec : {M : Type 1} → statement M
-first-step-spec = tie.close (tie.spec (λ c. let w = within c in search ints depth 20) (λ c. let w = within c in search ints depth 20) (λ c. let w = within c in search ints depth 20) (λ c. let w = within c in search ints depth 20) (λ c. let w = within c in search ints depth 20) (λ c. let w = within c in search ints depth 20) (λ c. let w = within c in search ints depth 20) (λ c. let w = within c in search ints depth 20) (λ c. let w = within c in search ints depth 20) (λ c. let w = within c in search ints depth 20) (λ c. let w = within c in search ints depth 20) (λ c. let w = within c in search ints depth 20) (λ c. let w = within c in search ints depth 20) (λ c. let w = within c in search ints depth 20) (λ c. let w = within c in search ints depth 20) (λ c. let w = within c in search ints depth 20) (λ c. let w = within c in search ints depth 20) (λ c. let w = within c in search ints depth 20) returns)
+first-step-spec =
+    tie.close
+    (tie.spec (λ c. let w = each-within (c .pre) in search ints depth 20) (λ c. let w = each-within (c .pre) in search ints depth 20)
+    (λ c. let w = each-within (c .pre) in search ints depth 20) (λ c. let w = each-within (c .pre) in search ints depth 20)
+    (λ c. let w = each-within (c .pre) in search ints depth 20) (λ c. let w = each-within (c .pre) in search ints depth 20)
+    (λ c. let w = each-within (c .pre) in search ints depth 20) (λ c. let w = each-within (c .pre) in search ints depth 20)
+    (λ c. let w = each-within (c .pre) in search ints depth 20) (λ c. let w = each-within (c .pre) in search ints depth 20)
+    (λ c. let w = each-within (c .pre) in search ints depth 20) (λ c. let w = each-within (c .pre) in search ints depth 20)
+    (λ c. let w = each-within (c .pre) in search ints depth 20) (λ c. let w = each-within (c .pre) in search ints depth 20)
+    (λ c. let w = each-within (c .pre) in search ints depth 20) (λ c. let w = each-within (c .pre) in search ints depth 20)
+    (λ c. let w = each-within (c .pre) in search ints depth 20) (λ c. let w = each-within (c .pre) in search ints depth 20) returns)
