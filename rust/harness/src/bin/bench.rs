@@ -579,14 +579,22 @@ fn random_pictures() -> Vec<Row> {
     rows
 }
 
-/// A picture that an encoder coded, and pictures with as few coefficients as real streams have, at three densities.
-fn sparse_pictures() -> Vec<Row> {
-    let mut random = Random::new(3);
-    let coded = harness::store::read(include_bytes!("../../../tests/data/bars_q30_baseline.rmb1"));
+/// A picture that an encoder coded, under the name of its test pattern.
+fn coded_picture(pattern: &str, file: &[u8]) -> Row {
+    let coded = harness::store::read(file);
     let record = |(kind, modes, chroma_mode, numbers)| Record { kind, modes, chroma_mode, numbers };
     let records: Vec<Record> = coded.records.into_iter().map(record).collect();
-    let name = format!("{} by {}, coded by x264", 16 * coded.w, 16 * coded.h);
-    let mut rows = vec![picture(&mut Random::new(4), "sparse", name, (coded.w, coded.h), coded.slices, &records)];
+    let name = format!("{} by {}, {pattern}, coded by x264", 16 * coded.w, 16 * coded.h);
+    picture(&mut Random::new(4), "sparse", name, (coded.w, coded.h), coded.slices, &records)
+}
+
+/// Two pictures that an encoder coded, and pictures with as few coefficients as real streams have, at three densities.
+fn sparse_pictures() -> Vec<Row> {
+    let mut random = Random::new(3);
+    let mut rows = vec![
+        coded_picture("bars", include_bytes!("../../../tests/data/bars_q30_baseline.rmb1")),
+        coded_picture("fractal", include_bytes!("../../../tests/data/fractal_q27.rmb1")),
+    ];
     let densities = [(0.10, 0.32), (0.17, 0.47), (0.35, 0.52)];
     for (w, h) in SIZES {
         for (bare_macroblocks, bare_blocks) in densities {
