@@ -1,24 +1,33 @@
 -- `transform_8x8::passes::row` meets its contract: the eight numbers read are those of the definition. Assumes nothing.
-use mathlib.Core.Path.{_≡_, sym, ap, _∙_, subst}
+use mathlib.Core.Path.{_≡_, sym, ap, _∙_}
 use mathlib.Core.List.{List, [], _∷_}
 use Prim.Native.Nat.{ℕ, _+_, _*_}
 use native.Mathlib.Nat.{add-zero}
 use lib.IntN.{ℤ}
-use Rattle.laws.specs.Range.{Within, AllWithin, at}
-use Rattle.laws.proofs.Ints.{within-more}
+use Rattle.laws.specs.Range.{Within, at}
+use Rattle.laws.proofs.Ints.{within-back, within-more}
 use Rattle.residual.proofs.InRange.{all-within}
 use Rattle.transform_8x8.specs.Inverse8x8.{oneDimensional, eRow, fRow, gRow}
-use Rattle.transform_8x8.proofs.Eights.{eight, word, words-within, all-words}
+use Rattle.transform_8x8.proofs.Eights.{eight, eight-within, word, all-words}
 use borrow.Author.Needs.{needs}
 use Rattle.transform_8x8.proofs.passes.row.Statement.{statement}
 use Rattle.transform_8x8.proofs.passes.row.Tie as tie
 
--- row i, and how large its numbers are
+-- every number of the list is small, wherever it stands, and so it is as the machine reads it
+small : (u : tie.Start) (k : ℕ) → Within 241664 (at (u .args .d .now) k)
+small u k = within-more 32768 241664 _ (all-within (u .args .d .now) (u .pre .1) .each k) tt
+
+read : {z : ℤ} → Within 241664 z → Within 241664 (word z)
+read {z} h = within-back 241664 z tt h
+
+one-dimensional-requires : tie.Need-one-dimensional-requires
+one-dimensional-requires c κs =
+    let w = small (c .before .before .before .before .before .before .before .before) in
+    eight-within (read (w _)) (read (w _)) (read (w _)) (read (w _)) (read (w _)) (read (w _)) (read (w _)) (read (w _))
+
+-- row i
 abbrev numbers : tie.Start → ℕ → ℤ
 numbers u j = at (u .args .d .now) (8 * u .args .i + j)
-
-small : (u : tie.Start) (j : ℕ) → Within 241664 (numbers u j)
-small u j = within-more 32768 241664 _ (all-within (u .args .d .now) (u .pre .1) .each (8 * u .args .i + j)) tt
 
 -- what is read: the first number's place is written without the 0
 abbrev rest : tie.Start → List ℤ
@@ -27,16 +36,11 @@ rest u = let f = numbers u in word (f 1) ∷ word (f 2) ∷ word (f 3) ∷ word 
 reads : (u : tie.Start) → (word (at (u .args .d .now) (8 * u .args .i)) ∷ rest u) ≡ eight (λ j. word (numbers u j))
 reads u = ap (λ n. word (at (u .args .d .now) n) ∷ rest u) (sym (add-zero (8 * u .args .i)))
 
-one-dimensional-requires : tie.Need-one-dimensional-requires
-one-dimensional-requires c κs =
-    let u = c .before .before .before .before .before .before .before .before in
-    subst (AllWithin 241664) (sym (reads u)) (words-within 241664 (numbers u) tt (small u))
-
 returns : tie.Need-returns
 unfolding eRow fRow gRow
 returns c =
     let u = c .before .before .before .before .before .before .before .before .before in
-    c .one-dimensional .ensures ∙ ap (λ l. oneDimensional (at l)) (reads u) ∙ all-words 241664 (numbers u) tt (small u)
+    c .one-dimensional .ensures ∙ ap (λ l. oneDimensional (at l)) (reads u) ∙ all-words 241664 (numbers u) tt (λ j. small u (8 * u .args .i + j))
 
 pub row-spec : {M : Type 1} → statement M
 row-spec =
