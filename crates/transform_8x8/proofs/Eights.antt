@@ -8,7 +8,7 @@ use lib.IntN.{ℤ}
 use mir.Syntax.{w32}
 use mir.Val.{toZ, ofZ}
 use Rattle.laws.specs.Range.{Within, AllWithin, at}
-use Rattle.laws.proofs.Ints.{back}
+use Rattle.laws.proofs.Ints.{back, within-at}
 use Rattle.transform_8x8.specs.Inverse8x8.{firstStep, secondStep, thirdStep, oneDimensional}
 
 pub eight-is : {a b c d e f g h p q r s t u v w : ℤ} → a ≡ p → b ≡ q → c ≡ r → d ≡ s → e ≡ t → f ≡ u → g ≡ v → h ≡ w
@@ -30,13 +30,18 @@ eight-within {k} {a} {b} {c} {d} {e} {f} {g} {h} wa wb wc wd we wf wg wh = recor
     places (suc (suc (suc (suc (suc (suc (suc zero))))))) = wh
     places (suc (suc (suc (suc (suc (suc (suc (suc n)))))))) = record { within = omega arith }
 
--- the other way, for a search, which reads no list
-abbrev pub Each : ℕ → List ℤ → Type 0
-Each k l =
-    Within k (at l 0) × Within k (at l 1) × Within k (at l 2) × Within k (at l 3) × Within k (at l 4) × Within k (at l 5) × Within k (at l 6) × Within k (at l 7)
+-- the other way, for a search, which reads no list; 1048576 is more than any bound of the steps
+abbrev Small : List ℤ → ℕ → Type 0
+Small l n = Within 1048576 (at l n)
 
-pub each-within : {k : ℕ} {l : List ℤ} → AllWithin k l → Each k l
-each-within w = (w .each 0, w .each 1, w .each 2, w .each 3, w .each 4, w .each 5, w .each 6, w .each 7)
+abbrev pub Each : List ℤ → Type 0
+Each l = Small l 0 × Small l 1 × Small l 2 × Small l 3 × Small l 4 × Small l 5 × Small l 6 × Small l 7
+
+pub each-within : (k : ℕ) (l : List ℤ) → AllWithin k l → T (leb k 1048576) → Each l
+each-within k l w t = (e 0, e 1, e 2, e 3, e 4, e 5, e 6, e 7)
+  where
+    e : (n : ℕ) → Small l n
+    e n = within-at k 1048576 l n w t
 
 -- ---- eight numbers, as the machine reads them
 abbrev pub eight : (ℕ → ℤ) → List ℤ

@@ -2,3 +2,4 @@
 pub mod Bounded
 pub mod Columns
 pub mod Eights
+pub mod Words
