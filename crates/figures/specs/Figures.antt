@@ -15,6 +15,7 @@ use Rattle.intra_nxn.specs.IntraNxN.{predNxN, pred4x4L, pred8x8L, filteredSide,
 use Rattle.intra_nxn.specs.IntraNxN.{downLeft, downRight, verticalRight, horizontalDown, verticalLeft, horizontalUp}
 use Rattle.residual.specs.Inverse.{oneDimensional, rowOf, columnOf, rounded, inverse4x4}
 use Rattle.transform_8x8.specs.Inverse8x8.{firstStep, secondStep, thirdStep, eRow, fRow, gRow, hColumn, kColumn, mColumn, inverse8x8}
+use Rattle.transform_8x8.specs.Flat.{lone as lone8x8}
 use Rattle.basics.specs.Near.{Near, near, mean, dc}
 use Rattle.samples.specs.PlaneMode.{slope, ramp, plane}
 use Rattle.basics.specs.Qp.{QPc, table815}
@@ -72,10 +73,6 @@ column x = table 16 (predL 3 true true (near (replicate 8 0 ++ replicate 8 255) 
 abbrev lone : ℤ → List ℤ
 lone v = set (replicate 16 (pos 0)) 0 v
 
--- one coefficient of an 8x8 block, at place k
-abbrev lone8x8 : ℕ → ℤ → List ℤ
-lone8x8 k v = set (replicate 64 (pos 0)) k v
-
 -- the block that reaches every bound of the 8x8 inverse (transform_8x8/specs/Bounds): a value of each step, and a residual
 abbrev lowest : List ℤ
 lowest = replicate 64 (minus 32768)
@@ -117,9 +114,7 @@ figures =
     ∷ inverse4x4 (set (lone (pos 31)) 5 (pos 1)) leaves set (set (lone (pos 1)) 11 (pos 1)) 15 (pos 1)
     ∷ inverse4x4 (lone (pos 31)) leaves replicate 16 (pos 0) ∷ inverse4x4 (lone (pos 32)) leaves replicate 16 (pos 1)
     ∷ inverse4x4 (lone (minus 32)) leaves replicate 16 (pos 0) ∷ inverse4x4 (lone (minus 33)) leaves replicate 16 (minus 1)
-    ∷ inverse8x8 (lone8x8 0 (pos 64)) leaves replicate 64 (pos 1)
-    ∷ inverse8x8 (lone8x8 0 (pos 31)) leaves replicate 64 (pos 0) ∷ inverse8x8 (lone8x8 0 (minus 33)) leaves replicate 64 (minus 1)
-    ∷ inverse8x8 (lone8x8 9 (pos 91))
+    ∷ inverse8x8 (set (replicate 64 (pos 0)) 9 (pos 91))
     leaves (falls 3 3 2 1 ++ falls 3 2 1 1 ++ falls 2 1 1 0 ++ falls 1 1 0 0 ++ rises 1 1 0 0 ++ rises 2 1 1 0 ++ rises 3 2 1 1 ++ rises 3 3 2 1)
     ∷ extremes leaves (minus 114688 ∷ minus 126976 ∷ minus 241664 ∷ minus 845824 ∷ minus 936448 ∷ minus 1782272 ∷ minus 27848 ∷ [])
     ∷ (QPc 29 ∷ QPc 30 ∷ QPc 51 ∷ []) gives (29 ∷ 29 ∷ 39 ∷ [])
@@ -131,3 +126,9 @@ pub figures-hold : map (λ f. f .has) figures ≡ map (λ f. f .is) figures
 unfolding figures predNxN downLeft downRight verticalRight horizontalDown verticalLeft horizontalUp filteredSide filteredCorner filtered Clip1 QPc table815
     firstStep secondStep thirdStep eRow fRow gRow hColumn kColumn mColumn inverse8x8
 figures-hold = refl
+
+-- a coefficient alone at place 0 of an 8x8 block: these follow from `Flat` (transform_8x8/specs/Flat) and are not computed, 64 residuals each
+pub record FlatFigures : Type 0 where
+  pub of-64 : inverse8x8 (lone8x8 (pos 64)) ≡ replicate 64 (pos 1)
+  pub of-31 : inverse8x8 (lone8x8 (pos 31)) ≡ replicate 64 (pos 0)
+  pub of-minus-33 : inverse8x8 (lone8x8 (minus 33)) ≡ replicate 64 (minus 1)

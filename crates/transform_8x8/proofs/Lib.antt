@@ -2,4 +2,5 @@
 pub mod Bounded
 pub mod Columns
 pub mod Eights
+pub mod Flat
 pub mod Words

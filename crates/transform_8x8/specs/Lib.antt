@@ -1,4 +1,5 @@
 -- The definitions that the crate's contracts cite.
 pub mod Bounds
+pub mod Flat
 pub mod Inverse8x8
 pub mod inner

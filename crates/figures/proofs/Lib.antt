@@ -1,0 +1,2 @@
+-- What the figures follow from where they are not computed.
+pub mod FlatFigures

@@ -1,0 +1,13 @@
+-- A lone coefficient at place 0 gives 64 equal residuals.
+use mathlib.Core.Path.{_≡_}
+use mathlib.Core.List.{List, _∷_}
+use lib.IntN.{ℤ, pos}
+use lib.ListN.{replicate}
+use Rattle.residual.specs.Inverse.{rounded}
+use Rattle.transform_8x8.specs.Inverse8x8.{inverse8x8}
+
+abbrev pub lone : ℤ → List ℤ
+lone v = v ∷ replicate 63 (pos 0)
+
+pub record Flat : Type 0 where
+  pub flat : (v : ℤ) → inverse8x8 (lone v) ≡ replicate 64 (rounded v)
