@@ -27,8 +27,8 @@ fn line(d: [i32; 8]) -> [i32; 8] {
     [f[0] + f[7], f[2] + f[5], f[4] + f[3], f[6] + f[1], f[6] - f[1], f[4] - f[3], f[2] - f[5], f[0] - f[7]]
 }
 
-/// Each row of a block through the steps and into a column. The compiler takes four rows at a time; with the rows left in their place it takes
-/// them one by one, which is slower.
+/// Each row of a block through the steps and into a column: of the forms that were tried the fastest. With the rows left in their place it is
+/// slower.
 #[inline(always)]
 fn rows_into_columns(d: &[i32; 64]) -> [i32; 64] {
     let mut g = [0; 64];
