@@ -9,7 +9,8 @@
      5  an available neighbour macroblock is not done: offer it again later
      6  the kind or a mode is unknown, or an unused mode is not 0
      7  a used mode needs samples that are not available where it stands
-     8  a number lies outside -32768..32767
+     8  a number lies outside -32768..32767, or the inverse transform of a block of coefficients leaves the range that the standard demands of 8-bit
+        samples: a value that 8.5.12.2 or 8.5.13.2 names lies outside -32768..32767, or above 32735 after the columns
 
    A refused call writes nothing. Later versions may give further numbers: take an unknown one as a refusal.
 
@@ -32,7 +33,7 @@
 #define JIWARBEND_H
 
 #define JIWARBEND_VERSION_MAJOR 0
-#define JIWARBEND_VERSION_MINOR 3
+#define JIWARBEND_VERSION_MINOR 4
 #define JIWARBEND_VERSION_PATCH 0
 
 #include <stdbool.h>
@@ -109,7 +110,8 @@ uint32_t jiwarbend_start(uint32_t w, uint32_t h, uint8_t *done, size_t done_len,
    chroma_mode    0 DC, 1 horizontal, 2 vertical, 3 plane.
    numbers        384 dequantised coefficients: luma 256, Cb 64, Cr 64. Luma of kinds 0 and 2: sixteen blocks of 16 in scan order; of kind 1:
                   four blocks of 64 in raster order. Chroma: four blocks of 16 each, in raster order. Inside a block coefficients are in
-                  raster order. docs/RECORDS.md draws the scan and works an example. */
+                  raster order. docs/RECORDS.md draws the scan and works an example. No block's transform leaves its range (8), which no
+                  conforming stream breaks. */
 uint32_t jiwarbend_rebuild(uint32_t w, uint32_t h, uint32_t x, uint32_t y,
     uint8_t *luma, size_t luma_len, size_t luma_stride, uint8_t *cb, size_t cb_len, size_t cb_stride, uint8_t *cr, size_t cr_len, size_t cr_stride,
     uint8_t *done, size_t done_len, const uint16_t *slices, size_t slices_len, struct jiwarbend_progress *progress,
@@ -164,9 +166,10 @@ uint16_t jiwarbend_permitted_chroma(bool avail_top, bool avail_left, bool avail_
 
 /* ---- the inverse transforms and clipped sums (clause 8.5)
 
-   The answers are 0, 2 and 8. Lists have 16 elements, 64 in inverse_8x8 and add_residual_8x8. */
+   The answers are 0, 2 and 8. Lists have 16 elements, 64 in inverse_8x8 and add_residual_8x8. Predictions and residuals, also the one of
+   reconstruct_4x4_dc_into, are asked for the range of each number alone; coefficients also for the range of their block's transform. */
 
-/* The residual of dequantised coefficients, both in raster order. */
+/* The residual of dequantised coefficients, both in raster order. Alone at place 0, 32735 is taken and 32736 is not; -32768 is. */
 uint32_t jiwarbend_inverse_4x4(const int32_t *deq, size_t deq_len, int32_t *out, size_t out_len);
 uint32_t jiwarbend_inverse_8x8(const int32_t *deq, size_t deq_len, int32_t *out, size_t out_len);
 

@@ -162,7 +162,8 @@ pub fn chroma8x8_plane_pred(mode: u8, pred: &mut [u8], rec: &[u8], base: usize, 
 ///
 /// # Errors
 ///
-/// [`Refusal::Range`] for a number outside -32768..=32767.
+/// [`Refusal::Range`] for a number outside -32768..=32767, or a block whose transform leaves the range of 8.5.12.2: alone at place 0, 32735 is
+/// taken and 32736 is not.
 pub fn inverse_4x4(deq: &[i32; 16]) -> Result<[i32; 16], Refusal> {
     let mut out = [0; 16];
     let answer = unsafe { sys::jiwarbend_inverse_4x4(deq.as_ptr(), deq.len(), out.as_mut_ptr(), out.len()) };
@@ -186,7 +187,8 @@ pub fn inverse_4x4(deq: &[i32; 16]) -> Result<[i32; 16], Refusal> {
 ///
 /// # Errors
 ///
-/// [`Refusal::Range`] for a number outside -32768..=32767.
+/// [`Refusal::Range`] for a number outside -32768..=32767, or a block whose transform leaves the range of 8.5.13.2: alone at place 0, 32735 is
+/// taken and 32736 is not.
 pub fn inverse_8x8(deq: &[i32; 64]) -> Result<[i32; 64], Refusal> {
     let mut out = [0; 64];
     let answer = unsafe { sys::jiwarbend_inverse_8x8(deq.as_ptr(), deq.len(), out.as_mut_ptr(), out.len()) };
@@ -211,7 +213,7 @@ sums! {
     ///
     /// # Errors
     ///
-    /// [`Refusal::Range`] for a number outside -32768..=32767.
+    /// [`Refusal::Range`] for a number outside -32768..=32767, or a block whose transform leaves the range of 8.5.12.2.
     reconstruct_4x4, jiwarbend_reconstruct_4x4, deq, 16;
     /// The clipped sums of a 4x4 prediction and a residual.
     ///
@@ -241,7 +243,7 @@ pub struct Square {
 /// # Errors
 ///
 /// [`Refusal::Room`] unless the prediction's stride is 0..=4096, the written one 4..=4096, and all rows lie in their buffers;
-/// [`Refusal::Range`] for a number outside -32768..=32767.
+/// [`Refusal::Range`] for a number outside -32768..=32767, or a block whose transform leaves the range of 8.5.12.2.
 pub fn reconstruct_4x4_into(deq: &[i32; 16], pred: &[u8], from: Square, rec: &mut [u8], to: Square) -> Result<(), Refusal> {
     Refusal::check(unsafe {
         sys::jiwarbend_reconstruct_4x4_into(

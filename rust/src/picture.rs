@@ -13,7 +13,7 @@ pub struct Record {
     pub chroma_mode: u8,
     /// 256 coefficients for luma, 64 for Cb, 64 for Cr, dequantised and in -32768..=32767. Luma: sixteen blocks of 16 in scan order for kinds
     /// 0 and 2, four blocks of 64 in raster order for kind 1. Chroma: four blocks of 16 in raster order for each plane. Inside a block
-    /// coefficients are in raster order.
+    /// coefficients are in raster order. No block's transform leaves the range of 8.5.12.2 or 8.5.13.2, which no conforming stream breaks.
     pub numbers: [i32; 384],
 }
 

@@ -21,7 +21,8 @@ pub enum Refusal {
     Unknown = 6,
     /// A mode needs samples that are not available where it stands.
     NotPermitted = 7,
-    /// A number lies outside -32768..=32767.
+    /// A number lies outside -32768..=32767, or the inverse transform of a block of coefficients leaves the range that the standard demands of
+    /// 8-bit samples (8.5.12.2, 8.5.13.2): a value that the clause names lies outside -32768..=32767, or above 32735 after the columns.
     Range = 8,
 }
 
@@ -67,7 +68,7 @@ impl fmt::Display for Refusal {
             Refusal::NotReady => "an available neighbour is not done",
             Refusal::Unknown => "a kind or mode is unknown, or an unused mode is not 0",
             Refusal::NotPermitted => "a mode is not permitted where it stands",
-            Refusal::Range => "a number is out of range",
+            Refusal::Range => "a number or a block's transform is out of range",
         })
     }
 }

@@ -1,4 +1,8 @@
 //! The routines on single blocks, on the rules' figures and at the edges of what is taken.
+#[allow(dead_code)]
+#[path = "../oracle/src/halfway.rs"]
+mod halfway;
+
 use jiwarbend::block::*;
 use jiwarbend::turned::Case4x4;
 use jiwarbend::Refusal;
@@ -76,29 +80,147 @@ fn dc_alone_is_the_mode() {
     assert_eq!((chroma[0], chroma[4], chroma[32], chroma[36]), (20, 100, 80, 90));
 }
 
+/// A block with these coefficients at their places, and zeros beside them.
+fn block<const N: usize>(coefficients: &[(usize, i32)]) -> [i32; N] {
+    let mut out = [0; N];
+    coefficients.iter().for_each(|&(place, v)| out[place] = v);
+    out
+}
+
+/// A block whose coefficients are in range: the values of these letters leave it on the way, and its inverse takes it where there are none.
+fn leaves<const N: usize>(
+    inverse: fn(&[i32; N]) -> Result<[i32; N], Refusal>,
+    coefficients: &[(usize, i32)],
+    letters: &str,
+) -> Option<[i32; N]> {
+    let deq = block(coefficients);
+    assert!(coefficients.iter().all(|(_, v)| (-32768..=32767).contains(v)));
+    assert_eq!((halfway::in_range(&deq), halfway::leaves(&deq).as_str()), (letters.is_empty(), letters), "{coefficients:?}");
+    let answer = inverse(&deq);
+    assert_eq!(answer.err(), (!letters.is_empty()).then_some(Refusal::Range), "{coefficients:?}");
+    answer.ok()
+}
+
 #[test]
 fn figures_of_the_4x4_inverse() {
-    let residual = |places: &[(usize, i32)]| {
-        let mut c = [0; 16];
-        places.iter().for_each(|&(k, v)| c[k] = v);
-        inverse_4x4(&c).unwrap()
-    };
+    let residual = |places: &[(usize, i32)]| inverse_4x4(&block(places)).unwrap();
     let wanted: [i32; 16] = std::array::from_fn(|k| [0, 11, 15].contains(&k) as i32);
     assert_eq!(residual(&[(0, 31), (5, 1)]), wanted);
-    for (c, r) in [(31, 0), (32, 1), (-32, 0), (-33, -1)] {
+    for (c, r) in [(31, 0), (32, 1), (-32, 0), (-33, -1), (32735, 511), (-32768, -512)] {
         assert_eq!(residual(&[(0, c)]), [r; 16]);
+    }
+    // Alone at a place: all but the first lower as much as they raise.
+    for place in 0..16 {
+        let (low, high) = (if place == 0 { -32768 } else { -32735 }, 32735);
+        for v in [low, high] {
+            assert!(inverse_4x4(&block(&[(place, v)])).is_ok(), "{v} at place {place}");
+        }
+        for v in [low - 1, high + 1, 32767, 32768, -32769, i32::MIN, i32::MAX] {
+            assert_eq!(inverse_4x4(&block(&[(place, v)])), Err(Refusal::Range), "{v} at place {place}");
+        }
+    }
+}
+
+#[test]
+fn a_4x4_block_may_not_leave_the_range_on_the_way() {
+    let leaves = |coefficients: &[(usize, i32)], letters: &str| leaves(inverse_4x4, coefficients, letters);
+    // In the rows and nowhere else: row 3 takes back in the columns what row 1 has too much. Coefficients and last values are in range.
+    leaves(&[(4, 20_000), (5, 18_000), (12, -12_000)], "f");
+    leaves(&[(4, -20_000), (5, -18_000), (12, 12_000)], "f");
+    leaves(&[(4, 20_000), (6, 18_000), (12, -12_000)], "ef");
+    // In the columns and nowhere else. It shows in their last values: each of the others is half the sum or half the difference of two of these.
+    leaves(&[(0, 20_000), (8, 18_000)], "gh");
+    leaves(&[(0, -20_000), (8, -18_000)], "gh");
+    leaves(&[(0, 20_000), (4, 18_000)], "h");
+    // At the very end and nowhere else: all values fit into 16 bits, but one has no room for 32 more.
+    leaves(&[(0, 32_736)], "h");
+    leaves(&[(0, 20_000), (4, 12_750)], "h");
+    // Each limit on both sides. A last value of 32735 gives 511 and one of -32768 gives -512.
+    leaves(&[(4, 20_000), (5, 12_767), (12, -12_000)], "");
+    leaves(&[(4, 20_000), (5, 12_768), (12, -12_000)], "f");
+    leaves(&[(4, -20_000), (5, -12_768), (12, 12_000)], "");
+    leaves(&[(4, -20_000), (5, -12_769), (12, 12_000)], "f");
+    assert_eq!(leaves(&[(0, 20_000), (4, 12_735)], "").unwrap()[0], 511);
+    leaves(&[(0, 20_000), (4, 12_736)], "h");
+    assert_eq!(leaves(&[(0, -20_000), (4, -12_768)], "").unwrap()[0], -512);
+    leaves(&[(0, -20_000), (4, -12_769)], "h");
+}
+
+#[test]
+fn an_8x8_block_may_not_leave_the_range_on_the_way() {
+    let leaves = |coefficients: &[(usize, i32)], letters: &str| leaves(inverse_8x8, coefficients, letters);
+    // In the rows and nowhere else: in their first step alone, which the next one takes back, and to their end, which row 6 takes back in the columns.
+    leaves(&[(1, 22_000), (7, -4_000)], "e");
+    leaves(&[(1, -22_000), (7, 4_000)], "e");
+    leaves(&[(16, 20_000), (20, 18_000), (48, -12_000)], "efg");
+    // In the first step of the columns and nowhere else.
+    leaves(&[(8, 22_000), (56, -4_000)], "h");
+    leaves(&[(8, -22_000), (56, 4_000)], "h");
+    leaves(&[(0, 20_000), (16, 18_000)], "km");
+    // At the very end and nowhere else.
+    leaves(&[(0, 32_736)], "m");
+    leaves(&[(0, 20_000), (8, 8_500)], "m");
+    // Each limit on both sides.
+    for (far, near) in [(1, 7), (8, 56)] {
+        let (step, letter) = (if far == 1 { 3 } else { 24 }, if far == 1 { "e" } else { "h" });
+        leaves(&[(far, 21_845), (near, -4_000)], "");
+        leaves(&[(far, 21_845), (near, -4_000), (step, 1)], letter);
+        leaves(&[(far, -21_845), (near, 4_000)], "");
+        leaves(&[(far, -21_845), (near, 4_000), (step, -1)], letter);
+    }
+    leaves(&[(16, 20_001), (17, 8_511), (48, -12_000)], "");
+    leaves(&[(16, 20_002), (17, 8_511), (48, -12_000)], "g");
+    leaves(&[(16, -20_000), (17, -8_512), (48, 12_000)], "");
+    leaves(&[(16, -20_001), (17, -8_512), (48, 12_000)], "g");
+    assert_eq!(leaves(&[(0, 20_000), (8, 8_490)], "").unwrap()[0], 511);
+    leaves(&[(0, 20_001), (8, 8_490)], "m");
+    assert_eq!(leaves(&[(0, -20_000), (8, -8_512)], "").unwrap()[0], -512);
+    leaves(&[(0, -20_001), (8, -8_512)], "m");
+}
+
+#[test]
+fn the_range_is_asked_where_there_is_an_inverse_and_nowhere_else() {
+    let (pred, from, to) = ([100; 16], Square { offset: 0, stride: 4 }, Square { offset: 2, stride: 5 });
+    let into = |call: &dyn Fn(&mut [u8]) -> Result<(), Refusal>| {
+        let mut rec = vec![1; 24];
+        let answer = call(&mut rec);
+        assert_eq!(answer.is_err(), rec == [1; 24], "a refused call writes nothing, and an accepted one all of its square");
+        answer.map(|()| rec[to.offset])
+    };
+    let whole = |deq: &[i32; 16]| reconstruct_4x4(deq, &[100; 16]).map(|samples| samples[0]);
+    let put = |deq: &[i32; 16]| into(&|rec| reconstruct_4x4_into(deq, &pred, from, rec, to));
+    for (v, wanted) in [(32735, Ok(255)), (32736, Err(Refusal::Range)), (32767, Err(Refusal::Range)), (-32768, Ok(0))] {
+        let deq = block(&[(0, v)]);
+        assert_eq!((whole(&deq), put(&deq)), (wanted, wanted), "{v}");
+    }
+    for coefficients in [&[(4, 20_000), (5, 18_000), (12, -12_000)][..], &[(0, 20_000), (8, 18_000)], &[(0, 20_000), (4, 12_750)]] {
+        let deq = block(coefficients);
+        assert_eq!((whole(&deq), put(&deq)), (Err(Refusal::Range), Err(Refusal::Range)), "{coefficients:?}");
+        // The rows that leave the buffer are the smaller refusal.
+        let mut rec = [1; 16];
+        assert_eq!(reconstruct_4x4_into(&deq, &pred, from, &mut rec, to), Err(Refusal::Room));
+    }
+    // The prediction is part of the same refusal, by its numbers alone.
+    assert_eq!(reconstruct_4x4(&[0; 16], &[32767; 16]), Ok([255; 16]));
+    assert_eq!(reconstruct_4x4(&[0; 16], &[32768; 16]), Err(Refusal::Range));
+    // Residuals have no way: they go to the ends of 16 bits.
+    for v in [32767, -32768] {
+        let clipped = clip_u8(v);
+        assert_eq!(add_residual_4x4(&[v; 16], &[0; 16]), Ok([clipped; 16]));
+        assert_eq!(add_residual_8x8(&[v; 64], &[0; 64]), Ok([clipped; 64]));
+        assert_eq!(into(&|rec| add_residual_4x4_into(&[v; 16], &pred, from, rec, to)), Ok(clipped));
+        assert_eq!(into(&|rec| reconstruct_4x4_dc_into(v, &pred, from, rec, to)), Ok(clipped));
     }
 }
 
 #[test]
 fn figures_of_the_8x8_inverse() {
-    let alone = |place: usize, v: i32| {
-        let mut c = [0; 64];
-        c[place] = v;
-        inverse_8x8(&c)
-    };
-    for (c, r) in [(64, 1), (31, 0), (32, 1), (-32, 0), (-33, -1), (32767, 512), (-32768, -512)] {
+    let alone = |place: usize, v: i32| inverse_8x8(&block(&[(place, v)]));
+    for (c, r) in [(64, 1), (31, 0), (32, 1), (-32, 0), (-33, -1), (32735, 511), (-32768, -512)] {
         assert_eq!(alone(0, c), Ok([r; 64]));
+    }
+    for v in [32736, 32767] {
+        assert_eq!(alone(0, v), Err(Refusal::Range), "{v}");
     }
     // Row 1, column 5. The columns before the rows, or rounding towards 0, would give other residuals.
     let wanted = [
@@ -116,8 +238,15 @@ fn figures_of_the_8x8_inverse() {
         for v in [32768, -32769, i32::MIN, i32::MAX] {
             assert_eq!(alone(place, v), Err(Refusal::Range), "{v} at place {place}");
         }
-        for v in [32767, -32768] {
-            assert!(alone(place, v).is_ok(), "{v} at place {place}");
+        // In an odd row or column a coefficient counts three halves at most. All but the first lower as much as they raise.
+        let (low, high) = match (place, place / 8 % 2 + place % 2) {
+            (0, _) => (-32768, 32735),
+            (_, 0) => (-32735, 32735),
+            (_, 1) => (-21823, 21823),
+            _ => (-14548, 14549),
+        };
+        for (v, fits) in [(low, true), (low - 1, false), (high, true), (high + 1, false)] {
+            assert_eq!(alone(place, v).is_ok(), fits, "{v} at place {place}");
         }
     }
 }

@@ -180,7 +180,9 @@ fn every_refusal_has_its_number() {
     let mut wide = flat();
     wide.numbers[383] = 32768;
     assert_eq!(memory.refused(0, 0, &wide), Refusal::Range);
-    wide.numbers[383] = 32767;
+    wide.numbers[383] = 32736;
+    assert_eq!(memory.refused(0, 0, &wide), Refusal::Range);
+    wide.numbers[383] = 32735;
     assert_eq!(memory.lend().rebuild(0, 0, &wide), Ok(()));
 
     let mut lent = memory.lend();
@@ -205,6 +207,57 @@ fn the_smallest_refusal_is_given() {
     answers.push(memory.refused(9, 0, &bad));
     let numbers: Vec<u32> = answers.iter().map(|r| r.number()).collect();
     assert_eq!(numbers, [7, 6, 5, 4, 3, 2, 1]);
+}
+
+/// Coefficients of a block, by place.
+type Block = &'static [(usize, i32)];
+
+/// Blocks whose coefficients are in range and which leave it in the rows, in the columns, and at the very end: of 16 and of 64 coefficients.
+const HALFWAY_4X4: [Block; 3] = [&[(4, 20_000), (5, 18_000), (12, -12_000)], &[(0, 20_000), (8, 18_000)], &[(0, 32_736)]];
+const HALFWAY_8X8: [Block; 3] = [&[(1, 22_000), (7, -4_000)], &[(8, 22_000), (56, -4_000)], &[(0, 32_736)]];
+
+#[test]
+fn a_block_that_leaves_the_range_on_the_way_is_refused_in_every_plane() {
+    let kinds = [
+        Record::of_4x4([LumaMode::Dc; 16], ChromaMode::Dc),
+        Record::of_8x8([LumaMode::Dc; 4], ChromaMode::Dc),
+        Record::of_16x16(Luma16x16Mode::Dc, ChromaMode::Dc),
+    ];
+    let mut refusals = 0;
+    for good in kinds {
+        let (luma, of_luma) = if good.kind == 1 { (64, HALFWAY_8X8) } else { (16, HALFWAY_4X4) };
+        let places = (0..256).step_by(luma).map(|at| (at, of_luma)).chain((256..384).step_by(16).map(|at| (at, HALFWAY_4X4)));
+        for (at, blocks) in places {
+            let mut memory = Memory::new();
+            memory.lend().rebuild(0, 0, &good).unwrap();
+            for block in blocks {
+                let mut bad = good.clone();
+                block.iter().for_each(|&(place, v)| bad.numbers[at + place] = v);
+                assert!(bad.numbers.iter().all(|v| (-32768..=32767).contains(v)));
+                assert_eq!(memory.refused(1, 0, &bad), Refusal::Range, "kind {}, {block:?} from number {at} on", good.kind);
+                // A mode that is not permitted is the smaller refusal.
+                assert_eq!(memory.refused(1, 0, &Record { chroma_mode: 2, ..bad }), Refusal::NotPermitted);
+                refusals += 1;
+            }
+            assert_eq!((memory.progress, &memory.done[..]), (Progress::at(1, 0), &[1, 0, 0, 0][..]));
+            memory.lend().rebuild(1, 0, &good).unwrap();
+            assert_eq!((memory.progress, &memory.done[..]), (Progress::at(2, 1), &[1, 1, 0, 0][..]));
+        }
+    }
+    assert_eq!(refusals, 3 * ((16 + 8) + (4 + 8) + (16 + 8)));
+}
+
+#[test]
+fn blocks_at_the_ends_of_the_range_are_taken_in_every_plane() {
+    for (v, sample) in [(32735, 255), (-32768, 0)] {
+        for mut record in [Record::of_8x8([LumaMode::Dc; 4], ChromaMode::Dc), flat()] {
+            let luma = if record.kind == 1 { 64 } else { 16 };
+            (0..256).step_by(luma).chain((256..384).step_by(16)).for_each(|at| record.numbers[at] = v);
+            let mut picture = Picture::new(1, 1).unwrap();
+            picture.rebuild(0, 0, &record).unwrap();
+            assert!([picture.luma(), picture.cb(), picture.cr()].iter().all(|plane| plane.rows().flatten().all(|&v| v == sample)));
+        }
+    }
 }
 
 #[test]
@@ -249,7 +302,7 @@ fn an_8x8_macroblock_has_four_blocks_of_coefficients() {
         assert_eq!(row[8..], if y < 8 { [128; 8] } else { [141, 141, 140, 139, 137, 137, 136, 135] });
     }
     // Sums are clipped.
-    record.numbers[192] = 32767;
+    record.numbers[192] = 32_000;
     picture.start();
     picture.rebuild(0, 0, &record).unwrap();
     assert!(picture.luma().rows().skip(8).all(|row| row[8..] == [255; 8]));

@@ -215,7 +215,19 @@ fn rebuild() {
         (5, &[|r| r.done[0] = 0, |r| r.done[0] = 2]),
         (6, &[|r| r.kind = 3, |r| r.kind = 255, |r| r.modes[0] = 9, |r| r.chroma_mode = 4]),
         (7, &[|r| r.modes[0] = 0, |r| r.chroma_mode = 2, |r| r.chroma_mode = 3]),
-        (8, &[|r| r.numbers[0] = 32768, |r| r.numbers[383] = -32769, |r| r.numbers[200] = i32::MIN]),
+        (
+            8,
+            &[
+                |r| r.numbers[0] = 32768,
+                |r| r.numbers[383] = -32769,
+                |r| r.numbers[200] = i32::MIN,
+                // Blocks that leave the range on the way: the first and the last of luma, one of Cb and the last one of Cr.
+                |r| r.numbers[0] = 32767,
+                |r| r.numbers[192..256].fill(32767),
+                |r| r.numbers[256 + 16] = 32736,
+                |r| r.numbers[368..].fill(-32768),
+            ],
+        ),
     ];
     for kind in 0..3 {
         for (number, bends) in bends {
@@ -350,6 +362,17 @@ fn inverses() {
             numbers[place] = v;
             refused(name, 8, call(&numbers, n));
         }
+        // Blocks that leave the range on the way: at the very end, everywhere, and in the rows alone.
+        let mut alone = vec![0; n];
+        alone[0] = 32736;
+        let mut rows = vec![0; n];
+        let (row, other) = if n == 16 { (4, 12) } else { (16, 48) };
+        (rows[row], rows[row + 1], rows[other]) = (20_000, 18_000, -12_000);
+        for numbers in [&alone, &rows, &vec![32767; n], &vec![-32768; n]] {
+            refused(name, 8, call(numbers, n));
+        }
+        alone[0] = 32735;
+        accepted(name, call(&alone, n));
         accepted(name, call(&vec![1; n], n));
     }
 }
@@ -357,12 +380,13 @@ fn inverses() {
 #[test]
 fn sums() {
     type Sums = unsafe extern "C" fn(*const i32, usize, *const i32, usize, *mut u8, usize) -> u32;
-    let exports: [(&str, Sums, usize); 3] = [
-        ("reconstruct_4x4", jiwarbend_reconstruct_4x4, 16),
-        ("add_residual_4x4", jiwarbend_add_residual_4x4, 16),
-        ("add_residual_8x8", jiwarbend_add_residual_8x8, 64),
+    // Whether the first list has coefficients, whose block may leave the range on the way, or residuals.
+    let exports: [(&str, Sums, usize, bool); 3] = [
+        ("reconstruct_4x4", jiwarbend_reconstruct_4x4, 16, true),
+        ("add_residual_4x4", jiwarbend_add_residual_4x4, 16, false),
+        ("add_residual_8x8", jiwarbend_add_residual_8x8, 64, false),
     ];
-    for (name, export, n) in exports {
+    for (name, export, n, coefficients) in exports {
         let call = |first: i32, second: i32, [a, b, c]: [usize; 3]| {
             let (a, b, out) = (ReadOnly::new(&vec![first; a]), ReadOnly::new(&vec![second; b]), ReadOnly::new(&vec![7u8; c]));
             move || unsafe { export(a.at(), a.len(), b.at(), b.len(), out.at(), out.len()) }
@@ -373,6 +397,13 @@ fn sums() {
         for (first, second) in [(32768, 1), (-32769, 1), (1, 32768), (1, -32769)] {
             refused(name, 8, call(first, second, [n; 3]));
         }
+        for first in [32767, -32768] {
+            if coefficients {
+                refused(name, 8, call(first, 1, [n; 3]));
+            } else {
+                accepted(name, call(first, 1, [n; 3]));
+            }
+        }
         accepted(name, call(1, 1, [n; 3]));
     }
 }
@@ -380,8 +411,8 @@ fn sums() {
 #[test]
 fn blocks_into_a_plane() {
     type Into = unsafe extern "C" fn(*const i32, usize, *const u8, usize, usize, usize, *mut u8, usize, usize, usize) -> u32;
-    let exports: [(&str, Into); 2] =
-        [("reconstruct_4x4_into", jiwarbend_reconstruct_4x4_into), ("add_residual_4x4_into", jiwarbend_add_residual_4x4_into)];
+    let exports: [(&str, Into, bool); 2] =
+        [("reconstruct_4x4_into", jiwarbend_reconstruct_4x4_into, true), ("add_residual_4x4_into", jiwarbend_add_residual_4x4_into, false)];
     // Lengths, offsets and strides of the prediction and of what is written. Each square ends with its buffer.
     let right = [(19, 3, 4), (43, 9, 10)];
     let wrong = [
@@ -397,7 +428,7 @@ fn blocks_into_a_plane() {
         [right[0], (43, 9, 3)],
         [right[0], (43, 9, 4097)],
     ];
-    for (name, export) in exports {
+    for (name, export, coefficients) in exports {
         let call = |v: i32, len: usize, [p, r]: [(usize, usize, usize); 2]| {
             let (numbers, pred, rec) = (ReadOnly::new(&vec![v; len]), ReadOnly::new(&vec![50u8; p.0]), ReadOnly::new(&vec![50u8; r.0]));
             move || unsafe { export(numbers.at(), numbers.len(), pred.at(), pred.len(), p.1, p.2, rec.at(), rec.len(), r.1, r.2) }
@@ -410,6 +441,13 @@ fn blocks_into_a_plane() {
         }
         for v in [32768, -32769] {
             refused(name, 8, call(v, 16, right));
+        }
+        for v in [32767, -32768] {
+            if coefficients {
+                refused(name, 8, call(v, 16, right));
+            } else {
+                accepted(name, call(v, 16, right));
+            }
         }
         accepted(name, call(1, 16, right));
     }

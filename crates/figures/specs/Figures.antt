@@ -13,7 +13,7 @@ use Rattle.samples.specs.Intra16x16.{predL}
 use Rattle.samples.specs.IntraChroma.{regionDc, predC}
 use Rattle.intra_nxn.specs.IntraNxN.{predNxN, pred4x4L, pred8x8L, filteredSide, filteredCorner, filtered}
 use Rattle.intra_nxn.specs.IntraNxN.{downLeft, downRight, verticalRight, horizontalDown, verticalLeft, horizontalUp}
-use Rattle.residual.specs.Inverse.{oneDimensional, rowOf, columnOf, rounded, inverse4x4}
+use Rattle.residual.specs.Inverse.{firstStep as firstOfTwo, secondStep as secondOfTwo, eRow as eRow4x4, fRow as fRow4x4, gColumn, hColumn as hColumn4x4, rounded, inverse4x4}
 use Rattle.transform_8x8.specs.Inverse8x8.{firstStep, secondStep, thirdStep, eRow, fRow, gRow, hColumn, kColumn, mColumn, inverse8x8}
 use Rattle.transform_8x8.specs.Flat.{lone as lone8x8}
 use Rattle.basics.specs.Near.{Near, near, mean, dc}
@@ -102,7 +102,7 @@ abbrev straight : Near → List ℕ
 straight p = pred8x8L 0 true true true p 7 0 ∷ pred8x8L 1 true true true (onSide p) 0 7 ∷ []
 
 unfoldable pub figures : List Figure
-unfolding table sumOf sumZ aboveOf leftOf cornerOf near mean dc predC regionDc predL plane ramp slope inverse4x4 columnOf rowOf oneDimensional rounded
+unfolding table sumOf sumZ aboveOf leftOf cornerOf near mean dc predC regionDc predL plane ramp slope inverse4x4 hColumn4x4 gColumn fRow4x4 eRow4x4 firstOfTwo secondOfTwo rounded
 figures =
     (flat true true ∷ flat true false ∷ flat false true ∷ flat false false ∷ []) gives (28 ∷ 25 ∷ 30 ∷ 128 ∷ [])
     ∷ (sample 3 full 0 0 ∷ sample 3 full 3 3 ∷ sample 3 cut 3 3 ∷ []) gives (20 ∷ 78 ∷ 40 ∷ [])

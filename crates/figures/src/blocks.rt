@@ -61,19 +61,7 @@ pub(crate) fn places() {
     );
 }
 
-// One number among zeros, as a coefficient, a residual, a flat residual and a prediction.
-fn coefficient(v: i32) -> u32 {
-    let mut deq = [0i32; 16];
-    deq[15] = v;
-    residual::inverse::inverse_4x4(&deq).answer
-}
-
-fn coefficient_8x8(v: i32) -> u32 {
-    let mut deq = [0i32; 64];
-    deq[63] = v;
-    transform_8x8::inverse::inverse_8x8(&deq).answer
-}
-
+// One number among zeros, as a residual, a flat residual and a prediction.
 fn residual(v: i32) -> u32 {
     let mut res = [0i32; 64];
     res[63] = v;
@@ -95,14 +83,6 @@ fn flat(v: i32) -> u32 {
 }
 
 pub(crate) fn numbers() {
-    tell(b"inverse_4x4, coefficient 32767", coefficient(32767));
-    tell(b"inverse_4x4, coefficient 32768", coefficient(32768));
-    tell(b"inverse_4x4, coefficient -32768", coefficient(-32768));
-    tell(b"inverse_4x4, coefficient -32769", coefficient(-32769));
-    tell(b"inverse_8x8, coefficient 32767", coefficient_8x8(32767));
-    tell(b"inverse_8x8, coefficient 32768", coefficient_8x8(32768));
-    tell(b"inverse_8x8, coefficient -32768", coefficient_8x8(-32768));
-    tell(b"inverse_8x8, coefficient -32769", coefficient_8x8(-32769));
     tell(b"add_residual_8x8, residual 32767", residual(32767));
     tell(b"add_residual_8x8, residual 32768", residual(32768));
     tell(b"add_residual_4x4, prediction -32768", prediction(-32768));

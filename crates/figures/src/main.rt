@@ -3,6 +3,7 @@
 mod blocks; // calls on one block
 mod offer; // a record to a picture
 mod pictures; // calls on a picture
+mod ranges; // blocks of coefficients at the ends of the range
 mod shuffled; // a picture in two orders
 mod tell;
 
@@ -15,6 +16,9 @@ fn main() {
     );
     blocks::strides();
     blocks::places();
+    ranges::alone();
+    ranges::halfway();
+    ranges::sums();
     blocks::numbers();
     blocks::plane_forms();
     io::write_all(
@@ -25,5 +29,6 @@ fn main() {
     pictures::sizes();
     pictures::slices();
     pictures::refusals();
+    pictures::ranges();
     shuffled::compare();
 }

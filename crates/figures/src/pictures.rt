@@ -248,12 +248,74 @@ pub(crate) fn refusals() {
         b"8x8 vertical in block 2",
         at(0, 0, none, one, 0, with_mode(flat(1), 2, 0)),
     );
+}
+
+// Row 1 of the 4x4 block from number `first` on comes to 20000 + v, and row 0 of an 8x8 block to 3/2 v in its first step, in range or not.
+fn with_row(r: Record, first: usize, v: i32) -> Record {
+    let modes = r.modes;
+    let mut numbers = r.numbers;
+    if first < 372 {
+        if r.kind == 1 && first < 256 {
+            numbers[first + 1] = v;
+            numbers[first + 7] = -4000;
+        } else {
+            numbers[first + 4] = 20000;
+            numbers[first + 5] = v;
+            numbers[first + 12] = -12000;
+        }
+    }
+    Record {
+        kind: r.kind,
+        modes,
+        chroma_mode: r.chroma_mode,
+        numbers,
+    }
+}
+
+// The first macroblock of a picture from that record.
+fn offered(record: Record) -> u32 {
+    at(0, 0, [0; 6], [5; 6], 0, record)
+}
+
+// The range of a block in each plane and of each kind.
+pub(crate) fn ranges() {
+    tell(b"number 32735", offered(with_number(flat(0), 32735)));
+    tell(b"number 32736", offered(with_number(flat(0), 32736)));
+    tell(b"number 32768", offered(with_number(flat(0), 32768)));
     tell(
-        b"number 32767",
-        at(0, 0, none, one, 0, with_number(flat(0), 32767)),
+        b"4x4, a row comes to 32767",
+        offered(with_row(flat(0), 240, 12767)),
     );
     tell(
-        b"number 32768",
-        at(0, 0, none, one, 0, with_number(flat(0), 32768)),
+        b"4x4, a row alone comes to 32768",
+        offered(with_row(flat(0), 240, 12768)),
+    );
+    tell(
+        b"8x8, a row comes to 32767",
+        offered(with_row(flat(1), 192, 21845)),
+    );
+    tell(
+        b"8x8, a row alone comes to 32769",
+        offered(with_row(flat(1), 192, 21846)),
+    );
+    tell(
+        b"16x16, a row comes to 32767",
+        offered(with_row(flat(2), 0, 12767)),
+    );
+    tell(
+        b"16x16, a row alone comes to 32768",
+        offered(with_row(flat(2), 0, 12768)),
+    );
+    tell(
+        b"Cb, a row alone comes to 32768",
+        offered(with_row(flat(2), 256, 12768)),
+    );
+    tell(
+        b"Cr of kind 1, a row alone comes to 32768",
+        offered(with_row(flat(1), 368, 12768)),
+    );
+    tell(
+        b"Cr of kind 1, with a chroma mode that is not permitted",
+        offered(with_chroma(with_row(flat(1), 368, 12768), 2)),
     );
 }

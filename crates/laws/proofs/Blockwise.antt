@@ -1,8 +1,9 @@
 -- A list taken n numbers at a time, each block put through the part of another list from its first place on. Assumes nothing.
 use mathlib.Core.Path.{_≡_, sym, ap, ap₂, _∙_}
+use mathlib.Core.Bool.{Bool, _&&_}
 use mathlib.Core.List.{List, _++_}
 use Prim.Native.Nat.{ℕ, _+_, _*_, _-_, _/_, _%_, _<_, _≤_}
-use native.Mathlib.Nat.{mul-comm, mul-zero, mul-suc, zero-add}
+use native.Mathlib.Nat.{div-add-mod, div-add-mod', div-lt-iff-lt-mul, div-self, mod-lt, mul-comm, mul-zero, mul-suc, zero-add}
 use native.Mathlib.Numerals.{add-one}
 use native.Mathlib.Omega.{arith}
 use borrow.Rule.Slice.PartMut.{putMid, midOf}
@@ -11,10 +12,11 @@ use lib.IntN.{ℤ, pos}
 use lib.ListN.{length, drop}
 use lib.Seq.{ext-getD}
 use Rattle.laws.specs.Range.{at}
-use Rattle.laws.specs.Table.{table, onto, blockwise}
+use Rattle.laws.specs.Table.{table, onto, blockwise, allBelow, allBlocks}
 use Rattle.laws.proofs.Ontos.{onto-long, onto-row}
 use Rattle.laws.proofs.Stretches.{part-at}
 use Rattle.laws.proofs.Tables.{length-table, getD-table, table-same}
+use Rattle.laws.proofs.Tests.{all-next}
 
 -- f makes n numbers of a list, from its first n numbers alone
 pub record OfBlock (n : ℕ) (f : List ℤ → List ℤ) : Type 0 where
@@ -36,6 +38,14 @@ blockAt-is n b i f l h =
 pub blockwise-at : (n b i : ℕ) (f : List ℤ → List ℤ) (l : List ℤ) → i < n → n * b + i < length l
     → at (blockwise n f l) (n * b + i) ≡ at (f (table n (λ k. at l (n * b + k)))) i
 blockwise-at n b i f l h g = getD-table (pos 0) (length l) (blockAt n f l) (n * b + i) g ∙ blockAt-is n b i f l h
+
+-- each number of a list of whole blocks stands in one of them
+pub number-in : (n : ℕ) (l : List ℤ) (k : ℕ) → 0 < n → length l % n ≡ 0 → k < length l
+    → (k / n < length l / n) × (at l k ≡ at (table n (λ i. at l (n * (k / n) + i))) (k % n))
+number-in n l k some whole h = (
+  div-lt-iff-lt-mul some .1 (omega (arith, h, whole, div-add-mod' (length l) n)),
+  sym (getD-table (pos 0) n (λ i. at l (n * (k / n) + i)) (k % n) (mod-lt k some) ∙ ap (at l) (div-add-mod k n)),
+)
 
 module _ (n : ℕ) (f : List ℤ → List ℤ) (F : OfBlock n f) where
   itself : (d : List ℤ) → table n (at (f d)) ≡ f d
@@ -75,3 +85,29 @@ module _ (n : ℕ) (f : List ℤ → List ℤ) (F : OfBlock n f) where
         same i h =
             ap (λ t. at t i) (F .same part (table n (λ k. at l (n * b + k))) (λ k h. block-at k h ∙ sym (getD-table (pos 0) n (λ k. at l (n * b + k)) k h)))
             ∙ sym (blockAt-is n b i f l h)
+
+-- ---- a test that reads the first n numbers of a list alone
+pub record TestOfBlock (n : ℕ) (p : List ℤ → Bool) : Type 0 where
+  pub same : (d d′ : List ℤ) → ((k : ℕ) → k < n → at d k ≡ at d′ k) → p d ≡ p d′
+
+-- that test of block b of a list
+abbrev pub testAt : ℕ → (List ℤ → Bool) → List ℤ → ℕ → Bool
+testAt n p l b = p (table n (λ k. at l (n * b + k)))
+
+module _ (n : ℕ) (p : List ℤ → Bool) (P : TestOfBlock n p) (l : List ℤ) where
+  test-from : (b : ℕ) (d : List ℤ) → ((k : ℕ) → k < n → at d k ≡ at l (n * b + k)) → p d ≡ testAt n p l b
+  test-from b d h = P .same d (table n (λ k. at l (n * b + k))) (λ k g. h k g ∙ sym (getD-table (pos 0) n (λ k. at l (n * b + k)) k g))
+
+  -- how a loop goes on to block b, through the part of the list from its first place on
+  pub test-next : (b : ℕ) (t : Bool) → n * b + n ≤ length l → t ≡ allBelow b (testAt n p l) → t && p (midOf (n * b) (length l - n * b) l) ≡ allBelow (b + 1) (testAt n p l)
+  test-next b t room e =
+      ap₂ _&&_ e (test-from b (midOf (n * b) (length l - n * b) l) (λ k h. part-at (pos 0) l (n * b) (length l - n * b) k (omega arith)))
+      ∙ all-next b (testAt n p l)
+
+  -- one block is all of a list of n
+  pub test-alone : length l ≡ n → 0 < n → allBlocks n p l ≡ p l
+  unfolding allBelow
+  test-alone e h =
+      let one : length l / n ≡ 1 = ap (λ m. m / n) e ∙ div-self h in
+      ap (λ m. allBelow m (testAt n p l)) one
+      ∙ sym (test-from 0 l (λ k _. ap (at l) (sym (ap (λ m. m + k) (mul-zero n) ∙ zero-add k))))

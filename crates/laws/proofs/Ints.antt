@@ -159,13 +159,13 @@ shr-is k a x e = ap (λ (z : ℤ). shrZ z k) e
 pub ruleset ints = (tt, within-fits, within-add, within-neg, within-mul, within-mul-lit, within-mul-back, within-shr, within-lit, within-back, within-more, within-at, back-is, add-is, neg-is, mul-is, shr-is)
 
 -- ---- lists
-table-at : (k n : ℕ) (f : ℕ → ℤ) → ((i : ℕ) → Within k (f i)) → (m : ℕ) → Within k (at (table n f) m)
+table-at : (k n : ℕ) (f : ℕ → ℤ) → ((i : ℕ) → i < n → Within k (f i)) → (m : ℕ) → Within k (at (table n f) m)
 unfolding table
 table-at k zero f h m = record { within = omega arith }
-table-at k (suc n) f h zero = h 0
-table-at k (suc n) f h (suc m) = table-at k n (λ i. f (suc i)) (λ i. h (suc i)) m
+table-at k (suc n) f h zero = h 0 (omega arith)
+table-at k (suc n) f h (suc m) = table-at k n (λ i. f (suc i)) (λ i l. h (suc i) (omega arith)) m
 
-pub within-table : (k n : ℕ) (f : ℕ → ℤ) → ((i : ℕ) → Within k (f i)) → AllWithin k (table n f)
+pub within-table : (k n : ℕ) (f : ℕ → ℤ) → ((i : ℕ) → i < n → Within k (f i)) → AllWithin k (table n f)
 within-table k n f h = record { each = table-at k n f h }
 
 -- a list of four numbers, for a function that returns an array of four

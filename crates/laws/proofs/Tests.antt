@@ -1,10 +1,10 @@
 -- Tests and facts: what a test that holds says, how a test is shown, and choices by a test. Assumes nothing.
-use mathlib.Core.Path.{_≡_, refl, sym, ap, _∙_}
+use mathlib.Core.Path.{_≡_, refl, sym, ap, ap₂, _∙_}
 use mathlib.Core.Bool.{Bool, true, false, not, cond, _&&_, _||_}
 use mathlib.Core.Logic.{_≢_, _⊎_, inl, inr, ⊎-elim}
 use Prim.Native.Nat.{ℕ, zero, suc, _+_, _<_, _≤_}
 use native.Mathlib.Decide.{decLt}
-use native.Mathlib.Nat.{eq-or-lt-of-le}
+use native.Mathlib.Nat.{add-suc, add-zero, eq-or-lt-of-le}
 use native.Mathlib.Numerals.{add-one}
 use native.Mathlib.Omega.{arith}
 use borrow.Author.Tests.{lt-ltb, le-ltb}
@@ -35,6 +35,10 @@ same-test false true f g = absurd (g tt)
 same-test false false f g = refl
 
 -- ---- two tests
+pub and-assoc : (a b c : Bool) → a && b && c ≡ a && (b && c)
+and-assoc true b c = refl
+and-assoc false b c = refl
+
 pub and-left : (a b : Bool) → a && b ≡ true → a ≡ true
 and-left true b e = refl
 and-left false b e = e
@@ -120,6 +124,11 @@ pub all-more : (n : ℕ) (f : ℕ → Bool) → allBelow n f ≡ true → f n �
 unfolding allBelow
 all-more n f p q = rw (add-one, p) q
 
+-- the same of a loop without a way out
+pub all-next : (n : ℕ) (f : ℕ → Bool) → allBelow n f && f n ≡ allBelow (n + 1) f
+unfolding allBelow
+all-next n f = rw (add-one n)
+
 pub all-at : (n : ℕ) (f : ℕ → Bool) → allBelow n f ≡ true → (i : ℕ) → i < n → f i ≡ true
 unfolding allBelow
 all-at zero f p i h = absurd (omega arith)
@@ -135,6 +144,61 @@ pub all-of : (n : ℕ) (f : ℕ → Bool) → ((i : ℕ) → i < n → f i ≡ t
 unfolding allBelow
 all-of zero f h = refl
 all-of (suc n) f h = and-of (all-of n f (λ i l. h i (omega arith))) (h n (omega arith))
+
+-- tests that agree at every place
+pub all-same : (n : ℕ) (f g : ℕ → Bool) → ((i : ℕ) → i < n → f i ≡ g i) → allBelow n f ≡ allBelow n g
+unfolding allBelow
+all-same zero f g h = refl
+all-same (suc n) f g h = ap₂ _&&_ (all-same n f g (λ i l. h i (omega arith))) (h n (omega arith))
+
+-- two tests at each place
+pub all-both : (n : ℕ) (f g : ℕ → Bool) → allBelow n f && allBelow n g ≡ allBelow n (λ k. f k && g k)
+unfolding allBelow
+all-both zero f g = refl
+all-both (suc n) f g = swapped (allBelow n f) (f n) (allBelow n g) (g n) ∙ ap (λ t. t && (f n && g n)) (all-both n f g)
+  where
+    swapped : (a b c d : Bool) → (a && b) && (c && d) ≡ (a && c) && (b && d)
+    swapped true true true d = refl
+    swapped true true false d = refl
+    swapped true false true d = refl
+    swapped true false false d = refl
+    swapped false b c d = refl
+
+-- four tests after another one
+pub all-four : (t : Bool) (f : ℕ → Bool) → t && f 0 && f 1 && f 2 && f 3 ≡ t && allBelow 4 f
+unfolding allBelow
+all-four true f = refl
+all-four false f = refl
+
+-- and eight, four at a time
+pub all-eight : (t : Bool) (f : ℕ → Bool) → t && allBelow 4 f && allBelow 4 (λ k. f (4 + k)) ≡ t && allBelow 8 f
+unfolding allBelow
+all-eight t f = sym (all-four (t && allBelow 4 f) (λ k. f (4 + k))) ∙ ap (λ u. u && f 4 && f 5 && f 6 && f 7) (sym (all-four t f)) ∙ all t
+  where
+    all : (t : Bool) → t && f 0 && f 1 && f 2 && f 3 && f 4 && f 5 && f 6 && f 7 ≡ t && allBelow 8 f
+    all true = refl
+    all false = refl
+
+-- the places below m + n, those below m first
+pub all-split : (m n : ℕ) (f : ℕ → Bool) → allBelow (m + n) f ≡ allBelow m f && allBelow n (λ k. f (m + k))
+unfolding allBelow
+all-split m zero f = ap (λ k. allBelow k f) (add-zero m) ∙ alone (allBelow m f)
+  where
+    alone : (t : Bool) → t ≡ t && true
+    alone true = refl
+    alone false = refl
+all-split m (suc n) f =
+    ap (λ k. allBelow k f) (add-suc m n) ∙ ap (λ t. t && f (m + n)) (all-split m n f) ∙ and-assoc (allBelow m f) (allBelow n (λ k. f (m + k))) (f (m + n))
+
+-- a loop without a way out, after another test: how it starts, and how it goes on
+pub all-start : (x : Bool) (f : ℕ → Bool) → x ≡ x && allBelow 0 f
+unfolding allBelow
+all-start true f = refl
+all-start false f = refl
+
+pub all-after : (s x a : Bool) (n : ℕ) (f : ℕ → Bool) → s ≡ x && allBelow n f → a ≡ f n → s && a ≡ x && allBelow (n + 1) f
+all-after s x a n f e g =
+    ap₂ _&&_ e g ∙ and-assoc x (allBelow n f) (f n) ∙ ap (λ t. x && t) (all-next n f)
 
 -- a rule that is computed at each place below n
 pub below : (n : ℕ) (f : ℕ → Bool) → T (allBelow n f) → (k : ℕ) → k < n → T (f k)

@@ -36,3 +36,7 @@ sumZ (suc n) f = sumZ n f +ℤ f n
 unfoldable pub allBelow : ℕ → (ℕ → Bool) → Bool
 allBelow zero f = true
 allBelow (suc n) f = allBelow n f && f n
+
+-- p holds of each n numbers of a list
+abbrev pub allBlocks : ℕ → (List ℤ → Bool) → List ℤ → Bool
+allBlocks n p l = allBelow (length l / n) (λ b. p (table n (λ k. at l (n * b + k))))

@@ -1,59 +1,55 @@
 -- Residuals where a macroblock's numbers stood: all of them in 4x4 blocks, and the luma's in 8x8 blocks. Assumes nothing.
 use mathlib.Core.Path.{_≡_, refl, sym, ap, _∙_, subst}
 use mathlib.Core.Logic.{_≢_}
-use mathlib.Core.Bool.{Bool, true, false}
-use mathlib.Core.List.{List, [], _∷_, _++_}
-use Prim.Native.Nat.{ℕ, zero, suc, _+_, _*_, _-_, _%_, _<_, _≤_}
-use native.Mathlib.Decide.{decLt}
+use mathlib.Core.Bool.{_&&_}
+use mathlib.Core.List.{List, _++_}
+use Prim.Native.Nat.{ℕ, zero, suc, _+_, _*_, _-_, _/_, _<_, _≤_}
 use native.Mathlib.Omega.{arith}
-use borrow.Author.Tests.{eq-eqb}
 use borrow.Rule.Slice.PartMut.{putMid, midOf, postOf}
 use lib.IntN.{ℤ, pos}
 use lib.ListN.{length, take, drop, length-append, length-take, length-drop, List·getD-append}
 use lib.Seq.{getD-take, getD-append-add}
-use Rattle.laws.specs.Answer.{_unless_, answer}
 use Rattle.laws.specs.Range.{at}
-use Rattle.laws.specs.Table.{blockwise}
+use Rattle.laws.specs.Table.{allBelow, allBlocks, blockwise}
 use Rattle.laws.proofs.Blockwise.{blockwise-at}
-use Rattle.laws.proofs.Tables.{length-table, table-same}
-use Rattle.laws.proofs.Tests.{not-both, no-from, same-test, true-T, T-true}
-use Rattle.residual.specs.Inverse.{inverse4x4, blocksAnswer}
-use Rattle.residual.specs.Numbers.{inRange, allInRange}
-use Rattle.residual.proofs.InRange.{all-at, all-true, part-in-range}
-use Rattle.transform_8x8.specs.Inverse8x8.{inverse8x8}
-use Rattle.macroblock.specs.Kinds.{residual4x4, residual8x8}
-use Rattle.macroblock.specs.inner.Blocks.{Transformed, firstFor}
 use Rattle.laws.proofs.Stretches.{part-at}
+use Rattle.laws.proofs.Tables.{length-table, table-same}
+use Rattle.laws.proofs.Tests.{all-same, all-split}
+use Rattle.residual.specs.Inverse.{inverse4x4, inRange4x4}
+use Rattle.transform_8x8.specs.Inverse8x8.{inverse8x8, inRange8x8}
+use Rattle.macroblock.specs.Kinds.{coefficients, residual4x4, residual8x8}
+use Rattle.macroblock.specs.Rules.{lumaInRange, chromaInRange}
+use Rattle.macroblock.specs.inner.Blocks.{Transformed, firstFor}
 
--- ---- a list and its parts in range
-module _ (n : ℕ) (l : List ℤ) where
-  front-in-range : allInRange l ≡ true → allInRange (take n l) ≡ true
-  front-in-range e = all-true (take n l) (λ k h. ap inRange (getD-take n l k (pos 0) (omega (arith, length-take n l))) ∙ all-at l k e)
+-- ---- the blocks of a list's parts
+-- those of the first 256 numbers are those of the list
+front-block : (l : List ℤ) (k : ℕ) → k < 4 → coefficients 64 (take 256 l) k ≡ coefficients 64 l k
+front-block l k h = table-same 64 _ _ (λ i hi. getD-take 256 l (64 * k + i) (pos 0) (omega arith))
 
-  both-in-range : allInRange (take n l) ≡ true → allInRange (midOf n (length l - n) l) ≡ true → allInRange l ≡ true
-  both-in-range e f = all-true l (λ k h. go k h (decLt k n))
-    where
-      go : (k : ℕ) → k < length l → Dec (k < n) → inRange (at l k) ≡ true
-      go k h (yes p) = ap inRange (sym (getD-take n l k (pos 0) p)) ∙ all-at (take n l) k e
-      go k h (no p) =
-          ap (λ j. inRange (at l j)) (let q : k ≡ n + (k - n) = omega arith in q) ∙ ap inRange (sym (part-at (pos 0) l n (length l - n) (k - n) (omega arith)))
-          ∙ all-at (midOf n (length l - n) l) (k - n) f
+-- those of the part from block `first` on are those from there on
+part-block : (l : List ℤ) (n first b : ℕ) → 16 * b + 16 ≤ n → coefficients 16 (midOf (16 * first) n l) b ≡ coefficients 16 l (first + b)
+part-block l n first b room =
+    table-same 16 _ _ (λ i hi. part-at (pos 0) l (16 * first) n (16 * b + i) (omega arith)
+    ∙ ap (at l) (let e : 16 * first + (16 * b + i) ≡ 16 * (first + b) + i = omega arith in e))
 
-  front-out : allInRange (take n l) ≡ false → allInRange l ≡ false
-  front-out e = no-from (allInRange l) front-in-range (λ f. not-both f e)
+-- ---- in range
+module _ (l : List ℤ) (long : length l ≡ 384) where
+  -- a whole list in sixteens
+  pub all-told : allBlocks 16 inRange4x4 l ≡ lumaInRange 0 l && chromaInRange l
+  all-told = ap (λ n. allBelow n (λ b. inRange4x4 (coefficients 16 l b))) (let e : length l / 16 ≡ 24 = omega arith in e) ∙ all-split 16 8 _
 
-  -- what the answer for the front says of the whole list
-  pub front-answer : {r : ℕ} → r ≡ answer (8 unless allInRange (take n l) ∷ []) → ¬ (r ≡ 0) → r ≡ answer (8 unless allInRange l ∷ [])
-  front-answer {r} e z = go (allInRange (take n l)) refl
-    where
-      go : (t : Bool) → allInRange (take n l) ≡ t → r ≡ answer (8 unless allInRange l ∷ [])
-      go true t = absurd (z (e ∙ rw t))
-      go false t = e ∙ rw (t, front-out t)
+  -- its first 256 numbers in 64s, and the others in sixteens
+  pub front-told : allBlocks 64 inRange8x8 (take 256 l) ≡ lumaInRange 1 l
+  front-told =
+      ap (λ n. allBelow n (λ k. inRange8x8 (coefficients 64 (take 256 l) k))) (let e : length (take 256 l) / 64 ≡ 4 = omega (arith, length-take 256 l) in e)
+      ∙ all-same 4 _ _ (λ k h. ap inRange8x8 (front-block l k h))
 
-  pub rest-decides : allInRange (take n l) ≡ true → allInRange (midOf n (length l - n) l) ≡ allInRange l
-  rest-decides e =
-      same-test (allInRange (midOf n (length l - n) l)) (allInRange l)
-      (λ t. true-T (allInRange l) (both-in-range e (T-true _ t))) (λ t. true-T (allInRange (midOf n (length l - n) l)) (part-in-range n (length l - n) l (T-true _ t)))
+  pub rest-told : allBlocks 16 inRange4x4 (midOf 256 (length l - 256) l) ≡ chromaInRange l
+  rest-told =
+      let m = midOf 256 (length l - 256) l in
+      ap (λ n. allBelow n (λ b. inRange4x4 (coefficients 16 m b)))
+      (let e : length m / 16 ≡ 8 = omega (arith, length-take (length l - 256) (drop 256 l), length-drop 256 l) in e)
+      ∙ all-same 8 _ _ (λ b h. ap inRange4x4 (part-block l (length l - 256) 16 b (omega arith)))
 
 -- ---- a list transformed block by block holds the definition's residuals
 blocks-at : (l : List ℤ) (b x y : ℕ) → 16 * b + 16 ≤ length l → x < 4 → y < 4 → at (blockwise 16 inverse4x4 l) (16 * b + (4 * y + x)) ≡ residual4x4 l b x y
@@ -70,18 +66,13 @@ all-transformed l l′ n e = record {
   after = λ b x y low h hx hy. ap (λ t. at t (16 * b + (4 * y + x))) e ∙ blocks-at l b x y (omega arith) hx hy;
 }
 
--- the blocks of the first 256 numbers are those of the list
 front-blocks : (l : List ℤ) (k x y : ℕ) → k < 4 → residual8x8 (take 256 l) k x y ≡ residual8x8 l k x y
 unfolding residual8x8
-front-blocks l k x y h = ap (λ t. at (inverse8x8 t) (8 * y + x)) (table-same 64 _ _ (λ i hi. getD-take 256 l (64 * k + i) (pos 0) (omega arith)))
+front-blocks l k x y h = ap (λ t. at (inverse8x8 t) (8 * y + x)) (front-block l k h)
 
--- the 4x4 blocks of a list from block `first` on are those of the part from there on
-part-blocks : (l : List ℤ) (n first b x y : ℕ) → first ≤ b → 16 * (b - first) + 16 ≤ n → residual4x4 (midOf (16 * first) n l) (b - first) x y ≡ residual4x4 l b x y
+part-blocks : (l : List ℤ) (n first b x y : ℕ) → 16 * b + 16 ≤ n → residual4x4 (midOf (16 * first) n l) b x y ≡ residual4x4 l (first + b) x y
 unfolding residual4x4
-part-blocks l n first b x y h room =
-    ap (λ t. at (inverse4x4 t) (4 * y + x))
-    (table-same 16 _ _ (λ i hi. part-at (pos 0) l (16 * first) n (16 * (b - first) + i) (omega arith)
-    ∙ ap (at l) (let e : 16 * first + (16 * (b - first) + i) ≡ 16 * b + i = omega arith in e)))
+part-blocks l n first b x y room = ap (λ t. at (inverse4x4 t) (4 * y + x)) (part-block l n first b room)
 
 -- the first 256 numbers transformed in 64s, and those from block 16 on in sixteens, each put through its own part of `out`
 module _ (l out xs : List ℤ) (long : length l ≡ 384) (room : length out ≡ 384) (front : xs ≡ blockwise 64 inverse8x8 (take 256 l)) where
@@ -128,7 +119,7 @@ module _ (l out xs : List ℤ) (long : length l ≡ 384) (room : length out ≡ 
       after = λ b x y low h hx hy.
           late (16 * b + (4 * y + x)) (16 * (b - 16) + (4 * y + x)) (omega arith) (omega arith)
           ∙ blocks-at (midOf 256 (length l - 256) l) (b - 16) x y (omega (arith, length-take (length l - 256) (drop 256 l), length-drop 256 l)) hx hy
-          ∙ part-blocks l (length l - 256) 16 b x y low (omega arith);
+          ∙ part-blocks l (length l - 256) 16 (b - 16) x y (omega arith) ∙ ap (λ n. residual4x4 l n x y) (let e : 16 + (b - 16) ≡ b = omega arith in e);
     }
 
 -- ---- by kind
@@ -140,6 +131,7 @@ kind-other zero n t = t
 kind-other (suc zero) n t = absurd (n refl)
 kind-other (suc (suc _)) n t = t
 
--- a call that is given lists of the right lengths answers for its numbers alone
-pub blocks-answer : (n : ℕ) (l : List ℤ) (places r : ℕ) → length l % n ≡ 0 → length l ≡ places → r ≡ blocksAnswer n l places → r ≡ answer (8 unless allInRange l ∷ [])
-blocks-answer n l places r h g e = e ∙ rw (eq-eqb (length l % n) 0 h, eq-eqb (length l) places g)
+pub luma-other : (l : List ℤ) (kind : ℕ) → kind ≢ 1 → lumaInRange kind l ≡ lumaInRange 0 l
+luma-other l zero n = refl
+luma-other l (suc zero) n = absurd (n refl)
+luma-other l (suc (suc _)) n = refl

@@ -25,14 +25,18 @@ use Rattle.macroblock.specs.Square.{Rule, allParts}
 abbrev pub recordOf : ℕ → List ℕ → ℕ → List ℤ → Record
 recordOf kind modes chroma numbers = record { kind = kind; modes = modes; «chroma_mode» = chroma; numbers = numbers }
 
--- ---- residuals, from a record's numbers
--- of 4x4 coefficient block b: sixteen for luma in scan order, then four for Cb and four for Cr
-unfoldable pub residual4x4 : List ℤ → ℕ → ℕ → ℕ → ℤ
-residual4x4 numbers b x y = at (inverse4x4 (table 16 (λ i. at numbers (16 * b + i)))) (4 * y + x)
+-- ---- coefficient blocks of n numbers each: 4x4 blocks are sixteen for luma in scan order, then four for Cb and four for Cr; 8x8 blocks are four for the
+-- luma of kind 1
+abbrev pub coefficients : ℕ → List ℤ → ℕ → List ℤ
+coefficients n numbers b = table n (λ i. at numbers (n * b + i))
 
--- of 8x8 coefficient block k: four for the luma of kind 1
+-- ---- residuals
+-- of 4x4 coefficient block b, and of 8x8 coefficient block k
+unfoldable pub residual4x4 : List ℤ → ℕ → ℕ → ℕ → ℤ
+residual4x4 numbers b x y = at (inverse4x4 (coefficients 16 numbers b)) (4 * y + x)
+
 unfoldable pub residual8x8 : List ℤ → ℕ → ℕ → ℕ → ℤ
-residual8x8 numbers k x y = at (inverse8x8 (table 64 (λ i. at numbers (64 * k + i)))) (8 * y + x)
+residual8x8 numbers k x y = at (inverse8x8 (coefficients 64 numbers k)) (8 * y + x)
 
 -- of a larger block whose pieces are the coefficient blocks from b on
 abbrev pub residualIn : List ℤ → ℕ → ℕ → ℕ → ℤ

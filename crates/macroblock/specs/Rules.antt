@@ -3,18 +3,20 @@ use mathlib.Core.Bool.{Bool, cond, not, _&&_, _||_}
 use mathlib.Core.List.{List, [], _∷_, _++_}
 use Prim.Native.Nat.{ℕ, zero, suc, _+_, _*_, _-_}
 use lib.Dec.{eqb, ltb, leb}
+use lib.IntN.{ℤ}
 use lib.ListN.{getD, length}
 use Rattle.laws.specs.Answer.{Check, _unless_, answer}
 use Rattle.laws.specs.Table.{allBelow}
 use Rattle.basics.specs.Marks.{permittedNxN, permitted16x16, permittedChroma}
-use Rattle.residual.specs.Numbers.{allInRange}
+use Rattle.residual.specs.Inverse.{inRange4x4}
+use Rattle.transform_8x8.specs.Inverse8x8.{inRange8x8}
 use Rattle.maps.specs.Neighbours.{Side}
 use Rattle.macroblock.specs.declared.Record.{Record}
 use Rattle.macroblock.specs.declared.Strides.{Strides}
 use Rattle.macroblock.specs.declared.cut.Sides.{Sides}
 use Rattle.macroblock.specs.Cut.{sidesOf}
 use Rattle.maps.specs.Neighbours.Side.{A, B, C, D}
-use Rattle.macroblock.specs.Kinds.{cutFor}
+use Rattle.macroblock.specs.Kinds.{coefficients, cutFor}
 
 -- 2: in a plane of `len` samples with stride s, at most 4096, lie the square of side q at (x, y) and each marked neighbour: A and D have a column of squares
 -- before it, B, C and D a row above it, and C a column after it
@@ -66,9 +68,17 @@ unfoldable pub permitted : (Side → Bool) → Record → Bool
 permitted marks r =
     allBelow (used (r .kind)) (permittedAt (r .kind) (r .modes) marks) && permittedChroma (marks B) (marks A) (marks D) (r .«chroma_mode»)
 
--- 8: every number is in range
+-- 8: each coefficient block is in range, its numbers and all values that 8.5.12.2 and 8.5.13.2 name on the way to its residuals: luma by kind, Cb and Cr
+abbrev pub lumaInRange : ℕ → List ℤ → Bool
+lumaInRange zero numbers = allBelow 16 (λ b. inRange4x4 (coefficients 16 numbers b))
+lumaInRange (suc zero) numbers = allBelow 4 (λ k. inRange8x8 (coefficients 64 numbers k))
+lumaInRange (suc (suc _)) numbers = allBelow 16 (λ b. inRange4x4 (coefficients 16 numbers b))
+
+abbrev pub chromaInRange : List ℤ → Bool
+chromaInRange numbers = allBelow 8 (λ b. inRange4x4 (coefficients 16 numbers (16 + b)))
+
 unfoldable pub numbersGood : Record → Bool
-numbersGood r = allInRange (r .numbers)
+numbersGood r = lumaInRange (r .kind) (r .numbers) && chromaInRange (r .numbers)
 
 -- ---- the lines of the call's table
 abbrev pub roomRule : (rooms : Bool) → Check

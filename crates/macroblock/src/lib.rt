@@ -70,9 +70,8 @@ pub fn rebuild(
         return answer;
     }
     let mut residuals = [0i16; 384];
-    let answer = residuals_of(kind, numbers, &mut residuals);
-    if answer != 0 {
-        return answer;
+    if !residuals_of(kind, numbers, &mut residuals) {
+        return 8;
     }
     luma_square(luma, strides.luma, x, y, marks, kind, modes, &residuals);
     chroma_square(cb, strides.cb, x, y, marks, chroma_mode, &residuals, 16);

@@ -3,12 +3,11 @@ use mathlib.Core.Path.{_≡_, refl, sym, ap, _∙_, subst}
 use mathlib.Core.Bool.{Bool, true, false, cond, _&&_}
 use mathlib.Core.List.{List, [], _∷_}
 use Prim.Native.Nat.{ℕ, zero, suc, _+_, _<_, _≤_}
-use native.Mathlib.Numerals.{add-one}
 use native.Mathlib.Omega.{arith}
 use borrow.Author.Tests.{le-leb, leb-true}
 use borrow.Rule.Slice.PartMut.{midOf}
 use lib.Dec.{leb}
-use lib.IntN.{ℤ, pos, negsuc}
+use lib.IntN.{ℤ, pos, negsuc, negℤ, _+ℤ_, _-ℤ_}
 use lib.ListN.{length, drop, length-take}
 use lib.Signed.{leZ, ltZ}
 use mir.Facts.{toZ-ofZ}
@@ -17,10 +16,10 @@ use mir.Val.{SFits, toZ, ofZ}
 use Rattle.laws.specs.Range.{Within, AllWithin, at, minus}
 use Rattle.laws.specs.Table.{allBelow}
 use Rattle.laws.proofs.Stretches.{part-at}
-use Rattle.laws.proofs.Ints.{up, dn, lt-parts, ge-parts}
+use Rattle.laws.proofs.Ints.{up, dn, parts-add, parts-neg, parts-pos, lt-parts, ge-parts}
 use Rattle.laws.proofs.Tests as tests
-use Rattle.laws.proofs.Tests.{true-T, T-true, not-both, same-test, and-left, and-right, and-of, and-no, both-left, both-right, both-of, choose, all-of}
-use Rattle.residual.specs.Numbers.{inRange, allInRange}
+use Rattle.laws.proofs.Tests.{true-T, T-true, not-both, same-test, and-left, and-right, and-of, and-no, both-left, both-right, both-of, choose, all-of, all-next}
+use Rattle.residual.specs.Numbers.{inRange, allInRange, lastInRange}
 
 pub in-range-within : (z : ℤ) → inRange z ≡ true → Within 32768 z
 unfolding inRange
@@ -32,6 +31,36 @@ pub in-range-short : (z : ℤ) → inRange z ≡ true → SFits w16 z
 unfolding inRange
 in-range-short (pos n) e = record { sfits = omega (arith, leb-true n 32767 (and-right (leZ (minus 32768) (pos n)) (leb n 32767) e)) }
 in-range-short (negsuc n) e = record { sfits = omega (arith, leb-true n 32767 (and-left (leb n 32767) true e)) }
+
+-- a number in range by its parts, both ways
+in-parts : (z : ℤ) → inRange z ≡ true → (up z ≤ 32767 + dn z) × (dn z ≤ 32768 + up z)
+unfolding inRange up dn
+in-parts (pos n) e = omega (arith, leb-true n 32767 (and-right (leZ (minus 32768) (pos n)) (leb n 32767) e))
+in-parts (negsuc n) e = omega (arith, leb-true n 32767 (and-left (leb n 32767) true e))
+
+parts-in : (z : ℤ) → (up z ≤ 32767 + dn z) × (dn z ≤ 32768 + up z) → inRange z ≡ true
+unfolding inRange up dn
+parts-in (pos n) (h, g) = le-leb n 32767 (omega arith)
+parts-in (negsuc n) (h, g) = and-of (le-leb n 32767 (omega arith)) refl
+
+-- where the sum and the difference of two numbers are in range, each of them is: it is half of the two taken together
+pub halves : (x y : ℤ) → inRange (x +ℤ y) ≡ true → inRange (x -ℤ y) ≡ true → (inRange x ≡ true) × (inRange y ≡ true)
+halves x y s d =
+    let p = in-parts (x +ℤ y) s in
+    let q = in-parts (x -ℤ y) d in
+    (parts-in x (omega (arith, p, q, parts-add x y, parts-add x (negℤ y), parts-neg y)), parts-in y (omega (arith, p, q, parts-add x y, parts-add x (negℤ y), parts-neg y)))
+
+-- a value after the second pass is in range, and so it is with 32 more
+last-parts : (z : ℤ) → lastInRange z ≡ true → (up z ≤ 32735 + dn z) × (dn z ≤ 32768 + up z)
+unfolding lastInRange up dn
+last-parts (pos n) e = omega (arith, leb-true n 32735 (and-right (leZ (minus 32768) (pos n)) (leb n 32735) e))
+last-parts (negsuc n) e = omega (arith, leb-true n 32767 (and-left (leb n 32767) true e))
+
+pub last-in-range : (z : ℤ) → lastInRange z ≡ true → inRange z ≡ true
+last-in-range z e = let p = last-parts z e in parts-in z (omega arith)
+
+pub last-rounds : (z : ℤ) → lastInRange z ≡ true → inRange (z +ℤ pos 32) ≡ true
+last-rounds z e = let p = last-parts z e in parts-in (z +ℤ pos 32) (omega (arith, p, parts-add z (pos 32), parts-pos 32))
 
 pub within-in-range : (z : ℤ) → Within 32767 z → inRange z ≡ true
 unfolding inRange
@@ -124,23 +153,19 @@ all-parts s n e =
     (true-T _ (all-of n (high s) (λ k b. and-right (low s k) (high s k) (good k)))))
 
 -- how a loop that keeps the least, or the greatest, of the numbers passed goes on to number i, and back through the machine's word
-kept : (t : Bool) (a b r : ℤ) → SFits w32 a → SFits w32 b → r ≡ cond t b a → SFits w32 (toZ w32 (ofZ w32 r)) × (toZ w32 (ofZ w32 r) ≡ cond t b a)
+pub kept : (t : Bool) (a b r : ℤ) → SFits w32 a → SFits w32 b → r ≡ cond t b a → SFits w32 (toZ w32 (ofZ w32 r)) × (toZ w32 (ofZ w32 r) ≡ cond t b a)
 kept t a b r fa fb e =
     let f : SFits w32 r = subst (SFits w32) (sym e) (choose (SFits w32) t b a (λ _. fb) (λ _. fa)) in
     (subst (SFits w32) (sym (toZ-ofZ f)) f, toZ-ofZ f ∙ e)
-
-next : (n : ℕ) (f : ℕ → Bool) → allBelow n f && f n ≡ allBelow (n + 1) f
-unfolding allBelow
-next n f = rw (add-one n)
 
 pub least-next : (s : List ℤ) (i : ℕ) (a r : ℤ) → SFits w32 a → SFits w32 (at s i) → leZ (minus 32768) a ≡ allBelow i (low s) → r ≡ cond (ltZ (at s i) a) (at s i) a
     → SFits w32 (toZ w32 (ofZ w32 r)) × (leZ (minus 32768) (toZ w32 (ofZ w32 r)) ≡ allBelow (i + 1) (low s))
 least-next s i a r fa fb h e =
     let (f, k) = kept (ltZ (at s i) a) a (at s i) r fa fb e in
-    (f, ap (leZ (minus 32768)) k ∙ least-tells (minus 32768) a (at s i) ∙ ap (λ t. t && low s i) h ∙ next i (low s))
+    (f, ap (leZ (minus 32768)) k ∙ least-tells (minus 32768) a (at s i) ∙ ap (λ t. t && low s i) h ∙ all-next i (low s))
 
 pub greatest-next : (s : List ℤ) (i : ℕ) (a r : ℤ) → SFits w32 a → SFits w32 (at s i) → leZ a (pos 32767) ≡ allBelow i (high s) → r ≡ cond (ltZ a (at s i)) (at s i) a
     → SFits w32 (toZ w32 (ofZ w32 r)) × (leZ (toZ w32 (ofZ w32 r)) (pos 32767) ≡ allBelow (i + 1) (high s))
 greatest-next s i a r fa fb h e =
     let (f, k) = kept (ltZ a (at s i)) a (at s i) r fa fb e in
-    (f, ap (λ z. leZ z (pos 32767)) k ∙ greatest-tells (pos 32767) a (at s i) ∙ ap (λ t. t && high s i) h ∙ next i (high s))
+    (f, ap (λ z. leZ z (pos 32767)) k ∙ greatest-tells (pos 32767) a (at s i) ∙ ap (λ t. t && high s i) h ∙ all-next i (high s))

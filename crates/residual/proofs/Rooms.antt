@@ -2,19 +2,25 @@
 use mathlib.Core.Path.{_≡_, refl, sym, ap, _∙_}
 use mathlib.Core.Bool.{Bool, true, false, cond, _&&_}
 use mathlib.Core.List.{List, [], _∷_}
-use Prim.Native.Nat.{ℕ, _+_, _-_, _*_, _%_, _<_, _≤_}
-use native.Mathlib.Nat.{mul-le-mul-right}
+use Prim.Native.Nat.{ℕ, zero, suc, _+_, _-_, _*_, _/_, _%_, _<_, _≤_}
+use native.Mathlib.Nat.{mod-self, mul-le-mul-right}
 use native.Mathlib.Omega.{arith}
 use borrow.Author.Tests.{eq-eqb, eqb-true, le-leb, leb-true}
 use lib.Dec.{eqb, leb}
-use lib.IntN.{ℤ}
+use lib.IntN.{ℤ, pos}
 use lib.ListN.{length}
 use Rattle.laws.specs.Answer.{_unless_, answer, written}
-use Rattle.laws.proofs.Answers.{passes, holds, put}
-use Rattle.laws.proofs.Tests.{and-left, and-right, and-both, and-of}
-use Rattle.residual.specs.Inverse.{inverseAnswer}
-use Rattle.residual.specs.Numbers.{allInRange}
-use Rattle.residual.specs.Reconstruct.{rowsIn, intoRoom, sumsAnswer}
+use Rattle.laws.specs.Range.{at}
+use Rattle.laws.specs.Table.{table, allBlocks}
+use Rattle.laws.proofs.Answers.{holds, kept, put}
+use Rattle.laws.proofs.Blockwise.{number-in}
+use Rattle.laws.proofs.Tables.{length-table}
+use Rattle.laws.proofs.Tests.{not-both, no-from, and-left, and-right, and-both, and-of, all-at}
+use Rattle.residual.specs.Inverse.{inverseAnswer, blocksAnswer}
+use Rattle.residual.specs.Numbers.{inRange, allInRange}
+use Rattle.residual.specs.Reconstruct.{rowsIn, intoRoom, sumsRoom, sumsAnswer}
+use Rattle.residual.proofs.InRange.{all-true}
+use Rattle.residual.proofs.InRange as in-range
 
 -- row y of the prediction and of the written block of side n lie in their buffers
 pub record Room (n predLen predOff predStride recLen recOff recStride y : ℕ) : Type 0 where
@@ -63,34 +69,51 @@ module _ {list : ℕ} (sixteen numbers room : Bool) (e : list ≡ answer (2 unle
   in-room r = rw r e
 
 -- ---- the answer of a call on lists
-pub summable : (n : ℕ) (a b : List ℤ) (m : ℕ) → sumsAnswer n a b m ≡ 0
-    → (n ≤ 64) × (length a ≡ n) × (length b ≡ n) × (m ≡ n) × (allInRange a && allInRange b ≡ true)
-summable n a b m e =
-    let last = 8 unless (allInRange a && allInRange b) ∷ [] in
-    let o = passes 1 (leb n 64) (2 unless eqb (length a) n ∷ 2 unless eqb (length b) n ∷ 2 unless eqb m n ∷ last) e in
-    let p = passes 1 (eqb (length a) n) (2 unless eqb (length b) n ∷ 2 unless eqb m n ∷ last) (o .1) in
-    let q = passes 1 (eqb (length b) n) (2 unless eqb m n ∷ last) (p .1) in
-    let r = passes 1 (eqb m n) last (q .1) in
-    (leb-true n 64 (o .0), eqb-true (length a) n (p .0), eqb-true (length b) n (q .0), eqb-true m n (r .0), passes 7 (allInRange a && allInRange b) [] (r .1) .0)
+pub record Summable (n many pred bytes : ℕ) : Type 0 where
+  pub few : n ≤ 64
+  pub numbers : many ≡ n
+  pub prediction : pred ≡ n
+  pub places : bytes ≡ n
+
+pub summable : (n many pred bytes : ℕ) → sumsRoom n many pred bytes ≡ true → Summable n many pred bytes
+unfolding sumsRoom
+summable n many pred bytes e =
+    let abc = and-both (leb n 64 && eqb many n && eqb pred n) (eqb bytes n) e in
+    let ab = and-both (leb n 64 && eqb many n) (eqb pred n) (abc .0) in
+    let a = and-both (leb n 64) (eqb many n) (ab .0) in
+    record { few = leb-true n 64 (a .0); numbers = eqb-true many n (a .1); prediction = eqb-true pred n (ab .1); places = eqb-true bytes n (abc .1) }
 
 -- the same of arrays, whose lengths are right
-pub sums-array : (n : ℕ) (a b : List ℤ) → n ≤ 64 → length a ≡ n → length b ≡ n → sumsAnswer n a b n ≡ answer (8 unless (allInRange a && allInRange b) ∷ [])
-sums-array n a b h e f = rw (le-leb n 64 h, eq-eqb (length a) n e, eq-eqb (length b) n f, eq-eqb n n refl)
+pub sums-array : (n : ℕ) (good : List ℤ → Bool) (a b : List ℤ) → n ≤ 64 → length a ≡ n → length b ≡ n
+    → sumsAnswer n good a b n ≡ answer (8 unless (good a && allInRange b) ∷ [])
+unfolding sumsRoom
+sums-array n good a b h e f = rw (le-leb n 64 h, eq-eqb (length a) n e, eq-eqb (length b) n f, eq-eqb n n refl)
 
-pub inverse-array : (n : ℕ) (d : List ℤ) → length d ≡ n → inverseAnswer n d n ≡ answer (8 unless allInRange d ∷ [])
-inverse-array n d e = rw (eq-eqb (length d) n e, eq-eqb n n refl)
+pub inverse-array : (n : ℕ) (good : List ℤ → Bool) (d : List ℤ) → length d ≡ n → inverseAnswer n good d n ≡ answer (8 unless good d ∷ [])
+inverse-array n good d e = rw (eq-eqb (length d) n e, eq-eqb n n refl)
 
--- the answer for the blocks of a list, where one block is asked for
-pub one-block : (n : ℕ) (t : Bool) → answer (2 unless eqb (n % 16) 0 ∷ 2 unless eqb n 16 ∷ 8 unless t ∷ []) ≡ answer (2 unless eqb n 16 ∷ 8 unless t ∷ [])
-one-block n t = go (eqb n 16) refl
-  where
-    go : (b : Bool) → eqb n 16 ≡ b → answer (2 unless eqb (n % 16) 0 ∷ 2 unless b ∷ 8 unless t ∷ []) ≡ answer (2 unless b ∷ 8 unless t ∷ [])
-    go true e = let z : n % 16 ≡ 0 = ap (λ m. m % 16) (eqb-true n 16 e) in rw (eq-eqb (n % 16) 0 z)
-    go false e = both (eqb (n % 16) 0)
+-- ---- the blocks of a list: one out of range may have a number out of range, which is found first, and in the end neither passes
+module _ (n : ℕ) (good : List ℤ → Bool) (some : 0 < n) (numbers : (d : List ℤ) → length d ≡ n → good d ≡ true → allInRange d ≡ true) (l : List ℤ)
+    {places r : ℕ} {b : Bool} (e : r ≡ blocksAnswer n l places) (t : b ≡ written r false (allBlocks n good l)) where
+  module _ (whole : length l % n ≡ 0) (room : length l ≡ places) where
+    blocks-numbers : allBlocks n good l ≡ true → allInRange l ≡ true
+    blocks-numbers g =
+        all-true l (λ k h.
+        let p = number-in n l k some whole h in
+        let block = table n (λ i. at l (n * (k / n) + i)) in
+        ap inRange (p .1) ∙ in-range.all-at block (k % n) (numbers block (length-table (pos 0) n _) (all-at (length l / n) _ g (k / n) (p .0))))
+
+    found : r ≡ answer (8 unless allInRange l ∷ [])
+    found = e ∙ rw (eq-eqb (length l % n) 0 whole, eq-eqb (length l) places room)
+
+    pub blocks-told : (b ≡ allBlocks n good l) × (b ≡ true → r ≡ 0)
+    blocks-told = go (allInRange l) refl
       where
-        both : (b : Bool) → cond {A = ℕ} b 2 2 ≡ 2
-        both true = refl
-        both false = refl
+        go : (a : Bool) → allInRange l ≡ a → (b ≡ allBlocks n good l) × (b ≡ true → r ≡ 0)
+        go true a = let z : r ≡ 0 = found ∙ rw a in (t ∙ put _ _ z, λ _. z)
+        go false a =
+            let no : b ≡ false = t ∙ kept 7 _ _ (found ∙ rw a) in
+            (no ∙ sym (no-from (allBlocks n good l) blocks-numbers (λ g. not-both g a)), λ h. absurd (not-both h no))
 
 -- a list copied into one of its own length
 pub copied : {r : ℕ} {out : List ℤ} (l old : List ℤ) → length l ≡ length old → r ≡ answer (2 unless eqb (length l) (length old) ∷ []) → out ≡ written r old l

@@ -7,8 +7,8 @@ use lib.IntN.{ℤ, pos}
 use lib.ListN.{length, getD, replicate}
 use Rattle.laws.specs.Answer.{written}
 use Rattle.laws.specs.Table.{blockOf}
-use Rattle.residual.specs.Inverse.{inverse4x4, rounded}
-use Rattle.residual.specs.Numbers.{inRange, allInRange}
+use Rattle.residual.specs.Inverse.{rounded, inverse4x4, inRange4x4}
+use Rattle.residual.specs.Numbers.{inRange, allInRange, lastInRange}
 use Rattle.residual.specs.Reconstruct.{sums, putSquare, sumIn, intoRoom, intoAnswer}
 
 -- a coefficient at place 0, and 0 elsewhere
@@ -28,10 +28,12 @@ square plane off stride x y = getD plane (off + y * stride + x) 0
 pub record Agreement : Type 0 where
   -- a lone DC coefficient gives sixteen equal residuals
   pub flat : (v : ℤ) → inverse4x4 (lone v) ≡ replicate 16 (rounded v)
-  -- so that `reconstruct_4x4_dc_into` of the rounded coefficient is `reconstruct_4x4_into` of the lone one
-  pub flat-into : (v : ℤ) (pred : List ℕ) (predOff predStride : ℕ) (rec : List ℕ) (recOff recStride : ℕ) → inRange v ≡ true
+  -- it is in range where it is so after the second pass, -32768..32735
+  pub lone-range : (v : ℤ) → inRange4x4 (lone v) ≡ lastInRange v
+  -- so that `reconstruct_4x4_dc_into` of the rounded coefficient is `reconstruct_4x4_into` of the lone one wherever that is in range
+  pub flat-into : (v : ℤ) (pred : List ℕ) (predOff predStride : ℕ) (rec : List ℕ) (recOff recStride : ℕ) → inRange4x4 (lone v) ≡ true
       → into (inRange (rounded v)) (replicate 16 (rounded v)) pred predOff predStride rec recOff recStride
-      ≡ into (allInRange (lone v)) (inverse4x4 (lone v)) pred predOff predStride rec recOff recStride
+      ≡ into (inRange4x4 (lone v)) (inverse4x4 (lone v)) pred predOff predStride rec recOff recStride
   -- the array forms take every prediction that stands in a plane of bytes
   pub bytes-pass : (pred : List ℕ) (off stride : ℕ) → ((i : ℕ) → getD pred i 0 < 256) → allInRange (blockOf 4 (λ x y. pos (square pred off stride x y))) ≡ true
   -- and the sixteen bytes that a call puts into a plane are the array form's sums of the prediction that it reads

@@ -1,4 +1,5 @@
 -- The transformation of residual 4x4 blocks, clause 8.5.12.2: rows, then columns, then rounding. `shrZ z (2 ^ n)` is z >> n, which rounds down.
+use mathlib.Core.Bool.{Bool, _&&_}
 use mathlib.Core.List.{List, [], _∷_}
 use Prim.Native.Nat.{ℕ, _+_, _*_, _%_}
 use lib.Dec.{eqb}
@@ -7,39 +8,57 @@ use lib.ListN.{length}
 use lib.Signed.{shrZ}
 use Rattle.laws.specs.Answer.{_unless_, answer}
 use Rattle.laws.specs.Range.{at}
-use Rattle.laws.specs.Table.{blockOf}
-use Rattle.residual.specs.Numbers.{allInRange}
+use Rattle.laws.specs.Table.{allBelow, blockOf}
+use Rattle.residual.specs.Numbers.{inRange, allInRange, lastInRange}
 
--- the one-dimensional transformation of four numbers, of a row and of a column
-unfoldable pub oneDimensional : ℤ → ℤ → ℤ → ℤ → List ℤ
-oneDimensional d0 d1 d2 d3 =
-    let e0 = d0 +ℤ d2 in
-    let e1 = d0 -ℤ d2 in
-    let e2 = shrZ d1 2 -ℤ d3 in
-    let e3 = d1 +ℤ shrZ d3 2 in
-    (e0 +ℤ e3) ∷ (e1 +ℤ e2) ∷ (e1 -ℤ e2) ∷ (e0 -ℤ e3) ∷ []
+-- ---- the one-dimensional transformation of four numbers, of a row and of a column
+-- e from d in a row, g from f in a column
+unfoldable pub firstStep : (ℕ → ℤ) → List ℤ
+firstStep d = (d 0 +ℤ d 2) ∷ (d 0 -ℤ d 2) ∷ (shrZ (d 1) 2 -ℤ d 3) ∷ (d 1 +ℤ shrZ (d 3) 2) ∷ []
 
--- row i of the coefficients d, transformed: f[ i ][ 0 ], .., f[ i ][ 3 ]
-unfoldable pub rowOf : List ℤ → ℕ → List ℤ
-rowOf d i = oneDimensional (at d (4 * i)) (at d (4 * i + 1)) (at d (4 * i + 2)) (at d (4 * i + 3))
+-- f from e in a row, h from g in a column
+unfoldable pub secondStep : (ℕ → ℤ) → List ℤ
+secondStep e = (e 0 +ℤ e 3) ∷ (e 1 +ℤ e 2) ∷ (e 1 -ℤ e 2) ∷ (e 0 -ℤ e 3) ∷ []
 
--- column j of those, transformed: h[ 0 ][ j ], .., h[ 3 ][ j ]
-unfoldable pub columnOf : List ℤ → ℕ → List ℤ
-columnOf d j = oneDimensional (at (rowOf d 0) j) (at (rowOf d 1) j) (at (rowOf d 2) j) (at (rowOf d 3) j)
+abbrev pub oneDimensional : (ℕ → ℤ) → List ℤ
+oneDimensional d = secondStep (at (firstStep d))
 
 -- ( h + 32 ) >> 6
 unfoldable pub rounded : ℤ → ℤ
 rounded h = shrZ (h +ℤ pos 32) 64
 
--- the sixteen residuals r[ i ][ j ], row by row
-unfoldable pub inverse4x4 : List ℤ → List ℤ
-inverse4x4 d = blockOf 4 (λ j i. rounded (at (columnOf d j) i))
+-- ---- the values that the clause names, for sixteen coefficients d in raster order
+module _ (d : List ℤ) where
+  -- row i: e[ i ][ 0 ], .., e[ i ][ 3 ], and f in the same way
+  unfoldable pub eRow : ℕ → List ℤ
+  eRow i = firstStep (λ j. at d (4 * i + j))
+
+  unfoldable pub fRow : ℕ → List ℤ
+  fRow i = secondStep (at (eRow i))
+
+  -- column j of f: g[ 0 ][ j ], .., g[ 3 ][ j ], and h in the same way
+  unfoldable pub gColumn : ℕ → List ℤ
+  gColumn j = firstStep (λ i. at (fRow i) j)
+
+  unfoldable pub hColumn : ℕ → List ℤ
+  hColumn j = secondStep (at (gColumn j))
+
+  -- the sixteen residuals r[ i ][ j ] = ( h[ i ][ j ] + 32 ) >> 6, row by row
+  unfoldable pub inverse4x4 : List ℤ
+  inverse4x4 = blockOf 4 (λ j i. rounded (at (hColumn j) i))
+
+  -- what the clause demands of each of them for 8-bit samples: d, e, f and g lie in -32768..32767, and h in -32768..32735
+  unfoldable pub inRange4x4 : Bool
+  inRange4x4 =
+      allBelow 16 (λ k. inRange (at d k))
+      && allBelow 4 (λ i. allBelow 4 (λ j. inRange (at (eRow i) j) && inRange (at (fRow i) j)))
+      && allBelow 4 (λ j. allBelow 4 (λ i. inRange (at (gColumn j) i) && lastInRange (at (hColumn j) i)))
 
 -- ---- what the calls answer
--- one that puts the residuals of a block of n coefficients into a list: 2 for another length, 8 for a number out of range
-abbrev pub inverseAnswer : ℕ → List ℤ → ℕ → ℕ
-inverseAnswer n d places = answer (2 unless eqb (length d) n ∷ 2 unless eqb places n ∷ 8 unless allInRange d ∷ [])
+-- one that puts the residuals of a block of n coefficients into a list, by whether the block is in range: 2 for another length, 8 for a block out of range
+abbrev pub inverseAnswer : ℕ → (List ℤ → Bool) → List ℤ → ℕ → ℕ
+inverseAnswer n good d places = answer (2 unless eqb (length d) n ∷ 2 unless eqb places n ∷ 8 unless good d ∷ [])
 
--- one that puts those of each n numbers of a list
+-- one that puts those of each n numbers of a list: 2 for other lengths, 8 for a number out of range
 abbrev pub blocksAnswer : ℕ → List ℤ → ℕ → ℕ
 blocksAnswer n l places = answer (2 unless eqb (length l % n) 0 ∷ 2 unless eqb (length l) places ∷ 8 unless allInRange l ∷ [])

@@ -12,3 +12,7 @@ inRange z = leZ (minus 32768) z && leZ z (pos 32767)
 unfoldable pub allInRange : List ℤ → Bool
 allInRange [] = true
 allInRange (z ∷ zs) = inRange z && allInRange zs
+
+-- -32768..32735: a value after the second pass of a transform, to which rounding adds 32
+unfoldable pub lastInRange : ℤ → Bool
+lastInRange z = leZ (minus 32768) z && leZ z (pos 32735)

@@ -39,15 +39,17 @@ unfoldable pub intoRoom : ℕ → ℕ → ℕ → ℕ → ℕ → ℕ → ℕ �
 intoRoom n predLen predOff predStride recLen recOff recStride =
     leb predStride 4096 && leb n recStride && leb recStride 4096 && rowsIn n predLen predOff predStride && rowsIn n recLen recOff recStride
 
--- the answer of such a call for a 4x4 block, by whether its list has sixteen numbers and whether they are in range: 2 for the list's length, 2 without
--- room, 8 for a number out of range
+-- the answer of such a call for a 4x4 block, by whether its list has sixteen numbers and whether they are good: 2 for the list's length, 2 without
+-- room, 8 for numbers that are not
 abbrev pub intoAnswer : Bool → Bool → ℕ → ℕ → ℕ → ℕ → ℕ → ℕ → ℕ
 intoAnswer sixteen numbers predLen predOff predStride recLen recOff recStride =
     answer (2 unless sixteen ∷ 2 unless intoRoom 4 predLen predOff predStride recLen recOff recStride ∷ 8 unless numbers ∷ [])
 
--- the answer of a call on lists, n numbers, n of a prediction and n bytes, n at most 64: 2 for another length, 8 for a number out of range
-abbrev pub sumsAnswer : ℕ → List ℤ → List ℤ → ℕ → ℕ
-sumsAnswer n numbers pred bytes =
-    answer
-    (2 unless leb n 64 ∷ 2 unless eqb (length numbers) n ∷ 2 unless eqb (length pred) n ∷ 2 unless eqb bytes n
-    ∷ 8 unless (allInRange numbers && allInRange pred) ∷ [])
+-- a call on lists has n numbers, n of a prediction and n bytes, n at most 64
+unfoldable pub sumsRoom : ℕ → ℕ → ℕ → ℕ → Bool
+sumsRoom n numbers pred bytes = leb n 64 && eqb numbers n && eqb pred n && eqb bytes n
+
+-- the answer of such a call, whose numbers must be good: 2 for another length, 8 for numbers that are not, or a number of the prediction out of range
+abbrev pub sumsAnswer : ℕ → (List ℤ → Bool) → List ℤ → List ℤ → ℕ → ℕ
+sumsAnswer n good numbers pred bytes =
+    answer (2 unless sumsRoom n (length numbers) (length pred) bytes ∷ 8 unless (good numbers && allInRange pred) ∷ [])

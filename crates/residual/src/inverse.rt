@@ -1,16 +1,23 @@
 // The transformation of residual 4x4 blocks (clause 8.5.12.2).
 ghost use mathlib.Core.Path.{_≡_};
-ghost use mathlib.Core.Bool.{true};
-ghost use mathlib.Core.List.{List, [], _∷_, _++_, map};
-ghost use Prim.Native.Nat.{ℕ, _+_, _*_, _%_, _≤_, _<_};
+ghost use mathlib.Core.Bool.{true, false, _&&_};
+ghost use mathlib.Core.List.{List, [], _∷_, _++_};
+ghost use Prim.Native.Nat.{_+_, _*_, _%_, _≤_, _<_};
 ghost use lib.IntN.{ℤ, pos};
 ghost use lib.ListN.{length, drop, replicate};
 ghost use Rattle.laws.specs.Answer.{_unless_, answer, written};
 ghost use Rattle.laws.specs.Range.{Within, AllWithin, at};
-ghost use Rattle.laws.specs.Table.{onto, blockwise};
-ghost use Rattle.residual.specs.Inverse.{oneDimensional, rowOf, rounded, inverse4x4, inverseAnswer, blocksAnswer};
-ghost use Rattle.residual.specs.Numbers.{allInRange};
+ghost use Rattle.laws.specs.Table.{onto, blockwise, allBlocks};
+ghost use Rattle.residual.specs.Extents.{held, allOfFour};
+ghost use Rattle.residual.specs.Fits4x4.{Fits4x4};
+ghost use Rattle.residual.specs.Inverse.{oneDimensional, rounded, fRow, inverse4x4, inRange4x4, inverseAnswer, blocksAnswer};
+ghost use Rattle.residual.specs.Numbers.{inRange, allInRange, lastInRange};
 ghost use Rattle.residual.specs.inner.Sums.{placeIn};
+use super::extent::Extent;
+use super::extent::holds;
+use super::extent::no_extent;
+use super::extent::with_four;
+use super::extent::with_last_four;
 use super::numbers::all_in_range;
 use super::numbers::widen_all;
 
@@ -19,10 +26,11 @@ pub struct Residual4x4 {
     pub block: [i32; 16],
 }
 
-// The residuals of sixteen coefficients in raster order.
+// The residuals of sixteen coefficients in raster order. Where they are given, sixteen bits hold every value on the way to them.
 pub fn inverse_4x4(deq: &[i32; 16]) -> Residual4x4
-    ensures { λ r. ⌜ r .answer ≡ answer (8 unless allInRange (now (deq .entry)) ∷ []) ⌝ }
+    ensures { λ r. ⌜ r .answer ≡ answer (8 unless inRange4x4 (now (deq .entry)) ∷ []) ⌝ }
     ensures { λ r. ⌜ r .block ≡ written (r .answer) (replicate 16 (pos 0)) (inverse4x4 (now (deq .entry))) ⌝ }
+    ensures { λ r. ⌜ (r .answer ≡ 0 → Fits4x4 (now (deq .entry))) ⌝ }
 {
     let mut block = [0i32; 16];
     let answer = inverse_4x4_list(deq, &mut block);
@@ -31,8 +39,9 @@ pub fn inverse_4x4(deq: &[i32; 16]) -> Residual4x4
 
 // The same over lists, the residuals put into lent memory.
 pub fn inverse_4x4_list(deq: &[i32], out: &mut [i32]) -> u32
-    ensures { λ r. ⌜ r ≡ inverseAnswer 16 (now (deq .entry)) (length (now (out .entry))) ⌝ }
+    ensures { λ r. ⌜ r ≡ inverseAnswer 16 inRange4x4 (now (deq .entry)) (length (now (out .entry))) ⌝ }
     ensures { λ r. ⌜ now (out .exit) ≡ written r (now (out .entry)) (inverse4x4 (now (deq .entry))) ⌝ }
+    ensures { λ r. ⌜ (r ≡ 0 → Fits4x4 (now (deq .entry))) ⌝ }
 {
     if deq.len() != 16 {
         return 2;
@@ -40,54 +49,80 @@ pub fn inverse_4x4_list(deq: &[i32], out: &mut [i32]) -> u32
     if out.len() != 16 {
         return 2;
     }
-    if !all_in_range(deq) {
+    let mut res = [0i16; 16];
+    if !invert_one(deq, &mut res) {
         return 8;
     }
-    widen_all(&inverse_core(deq), out)
+    widen_all(&res, out)
+}
+
+// The residuals of sixteen coefficients, unless the block is out of range: whether it is in range.
+pub(crate) fn invert_one(d: &[i32], out: &mut [i16]) -> bool
+    requires { ⌜ (length (now d) ≡ 16) × (length (now out) ≡ 16) ⌝ }
+    ensures { λ r. ⌜ r ≡ inRange4x4 (now (d .entry)) ⌝ }
+    ensures { λ r. ⌜ (r ≡ true → now (out .exit) ≡ inverse4x4 (now (d .entry))) ⌝ }
+{
+    if !all_in_range(d) {
+        return false;
+    }
+    invert_all(d, out)
+}
+
+// What a call on the blocks of a list says: whether it is refused for its lengths or for a number, and else whether every block is in range.
+pub struct Blocks {
+    pub answer: u32,
+    pub in_range: bool,
 }
 
 // The residuals of each sixteen numbers of a list, at the same places. Residuals have sixteen bits, so that nobody need ask for their range again.
-pub fn inverse_blocks(list: &[i32], out: &mut [i16]) -> u32
-    ensures { λ r. ⌜ r ≡ blocksAnswer 16 (now (list .entry)) (length (now (out .entry))) ⌝ }
-    ensures { λ r. ⌜ now (out .exit) ≡ written r (now (out .entry)) (blockwise 16 inverse4x4 (now (list .entry))) ⌝ }
+pub fn inverse_blocks(list: &[i32], out: &mut [i16]) -> Blocks
+    ensures { λ r. ⌜ r .answer ≡ blocksAnswer 16 (now (list .entry)) (length (now (out .entry))) ⌝ }
+    ensures { λ r. ⌜ r .«in_range» ≡ written (r .answer) false (allBlocks 16 inRange4x4 (now (list .entry))) ⌝ }
+    ensures { λ r. ⌜ now (out .exit) ≡ written (r .answer) (now (out .entry)) (blockwise 16 inverse4x4 (now (list .entry))) ⌝ }
 {
     if list.len() % 16 != 0 {
-        return 2;
+        return refused(2);
     }
     if list.len() != out.len() {
-        return 2;
+        return refused(2);
     }
     if !all_in_range(list) {
-        return 8;
+        return refused(8);
     }
-    invert_all(list, out);
-    0
+    let in_range = invert_all(list, out);
+    Blocks {
+        answer: 0,
+        in_range,
+    }
 }
 
-// The same of a list that passes.
-fn invert_all(list: &[i32], out: &mut [i16])
+pub fn refused(answer: u32) -> Blocks
+    ensures { λ r. ⌜ (r .answer ≡ answer) × (r .«in_range» ≡ false) ⌝ }
+{
+    Blocks {
+        answer,
+        in_range: false,
+    }
+}
+
+// The residuals of a list that passes, and whether every block is in range.
+fn invert_all(list: &[i32], out: &mut [i16]) -> bool
     requires { ⌜ (length (now list) % 16 ≡ 0) × (length (now list) ≡ length (now out)) × (allInRange (now list) ≡ true) ⌝ }
+    ensures { λ r. ⌜ r ≡ allBlocks 16 inRange4x4 (now (list .entry)) ⌝ }
     ensures { λ _. ⌜ now (out .exit) ≡ blockwise 16 inverse4x4 (now (list .entry)) ⌝ }
 {
     let n = list.len() / 16;
+    let mut x = no_extent();
     for b in 0..n {
-        invert(&list[16 * b..], &mut out[16 * b..]);
+        x = invert(&list[16 * b..], &mut out[16 * b..], x);
     }
+    holds(x)
 }
 
-// The residuals of sixteen coefficients that are in range.
-pub(crate) fn inverse_core(deq: &[i32]) -> [i16; 16]
-    requires { ⌜ (length (now deq) ≡ 16) × (allInRange (now deq) ≡ true) ⌝ }
-    ensures { λ r. ⌜ r ≡ inverse4x4 (now (deq .entry)) ⌝ }
-{
-    let mut res = [0i16; 16];
-    invert(deq, &mut res);
-    res
-}
-
-// The residuals of the first sixteen numbers of a list over the first sixteen places of `out`: four rows, then four columns.
-fn invert(d: &[i32], out: &mut [i16])
-    requires { ⌜ (16 ≤ length (now d)) × (16 ≤ length (now out)) × ((k : ℕ) → k < 16 → Within 32768 (at (now d) k)) ⌝ }
+// The residuals of the first sixteen numbers of a list over the first sixteen places of `out`: four rows, then four columns. The extent reaches over theirs.
+fn invert(d: &[i32], out: &mut [i16], x: Extent) -> Extent
+    requires { ⌜ (16 ≤ length (now d)) × (16 ≤ length (now out)) × (allInRange (now d) ≡ true) ⌝ }
+    ensures { λ r. ⌜ held r ≡ (held x && inRange4x4 (now (d .entry))) ⌝ }
     ensures { λ _. ⌜ now (out .exit) ≡ inverse4x4 (now (d .entry)) ++ drop 16 (now (out .entry)) ⌝ }
 {
     let f0 = row(d, 0);
@@ -102,25 +137,54 @@ fn invert(d: &[i32], out: &mut [i16])
     put_row(out, 1, h0, h1, h2, h3);
     put_row(out, 2, h0, h1, h2, h3);
     put_row(out, 3, h0, h1, h2, h3);
+    let after_rows = with_rows(x, f0, f1, f2, f3);
+    with_columns(after_rows, h0, h1, h2, h3)
 }
 
 // Row `i` of the coefficients, transformed.
 fn row(d: &[i32], i: usize) -> [i32; 4]
-    requires { ⌜ (16 ≤ length (now d)) × ((k : ℕ) → k < 16 → Within 32768 (at (now d) k)) × (i < 4) ⌝ }
-    ensures { λ r. ⌜ r ≡ rowOf (now (d .entry)) i ⌝ }
+    requires { ⌜ (16 ≤ length (now d)) × (allInRange (now d) ≡ true) × (i < 4) ⌝ }
+    ensures { λ r. ⌜ r ≡ fRow (now (d .entry)) i ⌝ }
     ensures { λ r. ⌜ AllWithin 131072 r ⌝ }
 {
     let k = 4 * i;
     one_dimensional(d[k], d[k + 1], d[k + 2], d[k + 3])
 }
 
-// Column `j` of four transformed rows, transformed and rounded.
-fn column(f0: [i32; 4], f1: [i32; 4], f2: [i32; 4], f3: [i32; 4], j: usize) -> [i16; 4]
+// Column `j` of four transformed rows, transformed.
+fn column(f0: [i32; 4], f1: [i32; 4], f2: [i32; 4], f3: [i32; 4], j: usize) -> [i32; 4]
     requires { ⌜ AllWithin 131072 f0 × AllWithin 131072 f1 × AllWithin 131072 f2 × AllWithin 131072 f3 × (j < 4) ⌝ }
-    ensures { λ r. ⌜ r ≡ map rounded (oneDimensional (at f0 j) (at f1 j) (at f2 j) (at f3 j)) ⌝ }
+    ensures { λ r. ⌜ r ≡ oneDimensional (at (at f0 j ∷ at f1 j ∷ at f2 j ∷ at f3 j ∷ [])) ⌝ }
+    ensures { λ r. ⌜ AllWithin 524288 r ⌝ }
 {
-    let h = one_dimensional(f0[j], f1[j], f2[j], f3[j]);
-    [round(h[0]), round(h[1]), round(h[2]), round(h[3])]
+    one_dimensional(f0[j], f1[j], f2[j], f3[j])
+}
+
+// The one-dimensional transformation of four numbers.
+fn one_dimensional(d0: i32, d1: i32, d2: i32, d3: i32) -> [i32; 4]
+    requires { ⌜ Within 131072 d0 × Within 131072 d1 × Within 131072 d2 × Within 131072 d3 ⌝ }
+    ensures { λ r. ⌜ r ≡ oneDimensional (at (d0 ∷ d1 ∷ d2 ∷ d3 ∷ [])) ⌝ }
+    ensures { λ r. ⌜ AllWithin 524288 r ⌝ }
+{
+    let e0 = d0 + d2;
+    let e1 = d0 - d2;
+    let e2 = (d1 >> 1) - d3;
+    let e3 = d1 + (d3 >> 1);
+    [e0 + e3, e1 + e2, e1 - e2, e0 - e3]
+}
+
+// Row `i` of a block put from its four columns, each number rounded to a residual.
+fn put_row(out: &mut [i16], i: usize, h0: [i32; 4], h1: [i32; 4], h2: [i32; 4], h3: [i32; 4])
+    requires { ⌜ (16 ≤ length (now out)) × (i < 4) ⌝ }
+    requires { ⌜ AllWithin 524288 h0 × AllWithin 524288 h1 × AllWithin 524288 h2 × AllWithin 524288 h3 ⌝ }
+    ensures { λ _. ⌜ ((l : List ℤ) → length l ≡ length (now (out .entry)) → now (out .entry) ≡ onto (4 * i) (placeIn h0 h1 h2 h3) l
+        → now (out .exit) ≡ onto (4 * i + 4) (placeIn h0 h1 h2 h3) l) ⌝ }
+{
+    let k = 4 * i;
+    out[k] = round(h0[i]);
+    out[k + 1] = round(h1[i]);
+    out[k + 2] = round(h2[i]);
+    out[k + 3] = round(h3[i]);
 }
 
 // A number of the second pass, rounded to a residual.
@@ -131,28 +195,19 @@ fn round(h: i32) -> i16
     ((h + 32) >> 6) as i16
 }
 
-// The one-dimensional transformation of four numbers.
-fn one_dimensional(d0: i32, d1: i32, d2: i32, d3: i32) -> [i32; 4]
-    requires { ⌜ Within 131072 d0 × Within 131072 d1 × Within 131072 d2 × Within 131072 d3 ⌝ }
-    ensures { λ r. ⌜ r ≡ oneDimensional d0 d1 d2 d3 ⌝ }
-    ensures { λ r. ⌜ AllWithin 524288 r ⌝ }
+// The extent with four transformed rows. Where their numbers are in range, so are the sums that they are made of.
+fn with_rows(x: Extent, f0: [i32; 4], f1: [i32; 4], f2: [i32; 4], f3: [i32; 4]) -> Extent
+    ensures { λ r. ⌜ held r ≡ (held x && allOfFour inRange f0 && allOfFour inRange f1 && allOfFour inRange f2 && allOfFour inRange f3) ⌝ }
 {
-    let e0 = d0 + d2;
-    let e1 = d0 - d2;
-    let e2 = (d1 >> 1) - d3;
-    let e3 = d1 + (d3 >> 1);
-    [e0 + e3, e1 + e2, e1 - e2, e0 - e3]
+    with_four(with_four(with_four(with_four(x, f0), f1), f2), f3)
 }
 
-// Row `i` of a block put from its four columns.
-fn put_row(out: &mut [i16], i: usize, h0: [i16; 4], h1: [i16; 4], h2: [i16; 4], h3: [i16; 4])
-    requires { ⌜ (16 ≤ length (now out)) × (i < 4) ⌝ }
-    ensures { λ _. ⌜ ((l : List ℤ) → length l ≡ length (now (out .entry)) → now (out .entry) ≡ onto (4 * i) (placeIn h0 h1 h2 h3) l
-        → now (out .exit) ≡ onto (4 * i + 4) (placeIn h0 h1 h2 h3) l) ⌝ }
+// The same with four transformed columns.
+fn with_columns(x: Extent, h0: [i32; 4], h1: [i32; 4], h2: [i32; 4], h3: [i32; 4]) -> Extent
+    ensures { λ r. ⌜ held r ≡ (held x && allOfFour lastInRange h0 && allOfFour lastInRange h1 && allOfFour lastInRange h2 && allOfFour lastInRange h3) ⌝ }
 {
-    let k = 4 * i;
-    out[k] = h0[i];
-    out[k + 1] = h1[i];
-    out[k + 2] = h2[i];
-    out[k + 3] = h3[i];
+    with_last_four(
+        with_last_four(with_last_four(with_last_four(x, h0), h1), h2),
+        h3,
+    )
 }

@@ -9,12 +9,11 @@ ghost use lib.ListN.{length, getD, replicate};
 ghost use Rattle.laws.specs.Answer.{_unless_, answer, written};
 ghost use Rattle.laws.specs.Range.{AllWithin, at};
 ghost use Rattle.basics.specs.Clip.{Clip1};
-ghost use Rattle.residual.specs.Inverse.{inverse4x4};
+ghost use Rattle.residual.specs.Inverse.{inverse4x4, inRange4x4};
 ghost use Rattle.residual.specs.Numbers.{inRange, allInRange};
-ghost use Rattle.residual.specs.Reconstruct.{sums, putSquare, sumIn, rowsIn, intoRoom, intoAnswer, sumsAnswer};
+ghost use Rattle.residual.specs.Reconstruct.{sums, putSquare, sumIn, rowsIn, intoRoom, intoAnswer, sumsRoom, sumsAnswer};
 ghost use Rattle.residual.specs.inner.Sums.{summed};
-use super::inverse::inverse_blocks;
-use super::inverse::inverse_core;
+use super::inverse::invert_one;
 use super::numbers::all_in_range;
 use super::numbers::narrow;
 use super::numbers::narrow_all;
@@ -33,7 +32,7 @@ pub struct Block8x8 {
 
 // The samples of a 4x4 block, from its coefficients and its prediction.
 pub fn reconstruct_4x4(dequant: &[i32; 16], pred: &[i32; 16]) -> Block4x4
-    ensures { λ r. ⌜ r .answer ≡ answer (8 unless (allInRange (now (dequant .entry)) && allInRange (now (pred .entry))) ∷ []) ⌝ }
+    ensures { λ r. ⌜ r .answer ≡ answer (8 unless (inRange4x4 (now (dequant .entry)) && allInRange (now (pred .entry))) ∷ []) ⌝ }
     ensures { λ r. ⌜ r .block ≡ written (r .answer) (replicate 16 0) (sums 16 (inverse4x4 (now (dequant .entry))) (now (pred .entry))) ⌝ }
 {
     let mut block = [0u8; 16];
@@ -43,16 +42,22 @@ pub fn reconstruct_4x4(dequant: &[i32; 16], pred: &[i32; 16]) -> Block4x4
 
 // The same over lists, the samples put into lent memory.
 pub fn reconstruct_4x4_lists(deq: &[i32], pred: &[i32], block: &mut [u8]) -> u32
-    ensures { λ r. ⌜ r ≡ sumsAnswer 16 (now (deq .entry)) (now (pred .entry)) (length (now (block .entry))) ⌝ }
+    ensures { λ r. ⌜ r ≡ sumsAnswer 16 inRange4x4 (now (deq .entry)) (now (pred .entry)) (length (now (block .entry))) ⌝ }
     ensures { λ r. ⌜ now (block .exit) ≡ written r (now (block .entry)) (sums 16 (inverse4x4 (now (deq .entry))) (now (pred .entry))) ⌝ }
 {
-    let answer = sums_answer(16, deq, pred, block.len());
-    if answer != 0 {
-        return answer;
+    if !sums_room(16, deq.len(), pred.len(), block.len()) {
+        return 2;
     }
-    let mut res = [0i32; 16];
-    widen_all(&inverse_core(deq), &mut res);
-    add_clipped(16, &res, pred, block);
+    if !all_in_range(pred) {
+        return 8;
+    }
+    let mut res = [0i16; 16];
+    if !invert_one(deq, &mut res) {
+        return 8;
+    }
+    let mut wide = [0i32; 16];
+    widen_all(&res, &mut wide);
+    add_clipped(16, &wide, pred, block);
     0
 }
 
@@ -78,37 +83,33 @@ pub fn add_residual_8x8(res: &[i32; 64], pred: &[i32; 64]) -> Block8x8
 
 // The same of n numbers, 64 at most, over lists, the samples put into lent memory.
 pub fn add_residual_lists(n: usize, res: &[i32], pred: &[i32], block: &mut [u8]) -> u32
-    ensures { λ r. ⌜ r ≡ sumsAnswer n (now (res .entry)) (now (pred .entry)) (length (now (block .entry))) ⌝ }
+    ensures { λ r. ⌜ r ≡ sumsAnswer n allInRange (now (res .entry)) (now (pred .entry)) (length (now (block .entry))) ⌝ }
     ensures { λ r. ⌜ now (block .exit) ≡ written r (now (block .entry)) (sums n (now (res .entry)) (now (pred .entry))) ⌝ }
 {
-    let answer = sums_answer(n, res, pred, block.len());
-    if answer != 0 {
-        return answer;
+    if !sums_room(n, res.len(), pred.len(), block.len()) {
+        return 2;
+    }
+    if !both_in_range(res, pred) {
+        return 8;
     }
     add_clipped(n, res, pred, block);
     0
 }
 
-// The answer of a call on n numbers, n of a prediction and `bytes` places.
-fn sums_answer(n: usize, numbers: &[i32], pred: &[i32], bytes: usize) -> u32
-    ensures { λ r. ⌜ r ≡ sumsAnswer n (now (numbers .entry)) (now (pred .entry)) bytes ⌝ }
+// Whether there are n numbers, n of a prediction and n bytes, 64 at most.
+fn sums_room(n: usize, numbers: usize, pred: usize, bytes: usize) -> bool
+    ensures { λ r. ⌜ r ≡ sumsRoom n numbers pred bytes ⌝ }
 {
     if n > 64 {
-        return 2;
+        return false;
     }
-    if numbers.len() != n {
-        return 2;
+    if numbers != n {
+        return false;
     }
-    if pred.len() != n {
-        return 2;
+    if pred != n {
+        return false;
     }
-    if bytes != n {
-        return 2;
-    }
-    if !both_in_range(numbers, pred) {
-        return 8;
-    }
-    0
+    bytes == n
 }
 
 // The same of numbers that are in range: all sums are made before one is put, so that the compiled code takes them side by side.
@@ -155,14 +156,24 @@ pub fn reconstruct_4x4_into(
     r_off: usize,
     r_stride: usize,
 ) -> u32
-    ensures { λ r. ⌜ r ≡ intoAnswer (eqb (length (now (deq .entry))) 16) (allInRange (now (deq .entry)))
+    ensures { λ r. ⌜ r ≡ intoAnswer (eqb (length (now (deq .entry))) 16) (inRange4x4 (now (deq .entry)))
         (length (now (pred .entry))) «p_off» «p_stride» (length (now (rec .entry))) «r_off» «r_stride» ⌝ }
     ensures { λ r. ⌜ now (rec .exit) ≡ written r (now (rec .entry))
         (putSquare 4 «r_off» «r_stride» (sumIn 4 (inverse4x4 (now (deq .entry))) (now (pred .entry)) «p_off» «p_stride») (now (rec .entry))) ⌝ }
 {
+    if deq.len() != 16 {
+        return 2;
+    }
     let mut res = [0i16; 16];
-    let list = inverse_blocks(deq, &mut res);
+    let list = range_answer(invert_one(deq, &mut res));
     put_checked(list, &res, pred, p_off, p_stride, rec, r_off, r_stride)
+}
+
+// 8 for a block out of range, else 0.
+fn range_answer(in_range: bool) -> u32
+    ensures { λ r. ⌜ r ≡ answer (8 unless «in_range» ∷ []) ⌝ }
+{
+    if in_range { 0 } else { 8 }
 }
 
 // The same where all sixteen residuals are `rval`.

@@ -186,7 +186,7 @@ bounds d ok = record {
   h = λ j. first-all 30208 (column j) (large j);
   k = λ j. second-all 30208 (column j) (large j);
   m = λ j. third-all 30208 (column j) (large j);
-  r = within-table 27848 64 _ (λ k. rounded-small 27848 _ (third-all 30208 (column (k % 8)) (large (k % 8)) .each (k / 8)));
+  r = within-table 27848 64 _ (λ k _. rounded-small 27848 _ (third-all 30208 (column (k % 8)) (large (k % 8)) .each (k / 8)));
 }
   where
     row : ℕ → ℕ → ℤ

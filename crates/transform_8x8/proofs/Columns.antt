@@ -13,9 +13,9 @@ use Rattle.laws.proofs.Blockwise.{OfBlock}
 use Rattle.laws.proofs.Ontos.{onto-at, onto-long}
 use Rattle.laws.proofs.Tables.{length-table, getD-table, table-same}
 use Rattle.residual.specs.Inverse.{rounded}
-use Rattle.transform_8x8.specs.Inverse8x8.{eRow, fRow, gRow, hColumn, kColumn, mColumn, inverse8x8}
+use Rattle.transform_8x8.specs.Inverse8x8.{firstStep, secondStep, thirdStep, oneDimensional, eRow, fRow, gRow, hColumn, kColumn, mColumn, inverse8x8}
 use Rattle.transform_8x8.specs.inner.ByColumn.{ByColumn, rowAt, columnAt}
-use Rattle.transform_8x8.proofs.Eights.{eight-same}
+use Rattle.transform_8x8.proofs.Eights.{first-same}
 
 module _ (f : ℕ → ℤ) (old : List ℤ) where
   pub by-none : ByColumn f old 0 old
@@ -59,28 +59,54 @@ module _ (f : ℕ → ℤ) (old : List ℤ) where
 abbrev pub residualAt : List ℤ → ℕ → ℤ
 residualAt d k = rounded (at (mColumn d (k % 8)) (k / 8))
 
+-- column j of the transformed rows
+pub row-in : (d : List ℤ) (i j : ℕ) → i < 8 → j < 8 → at (table 64 (rowAt d)) (8 * i + j) ≡ at (gRow d i) j
+row-in d i j hi hj =
+    let r : (8 * i + j) / 8 ≡ i = omega arith in
+    let c : (8 * i + j) % 8 ≡ j = omega arith in
+    getD-table (pos 0) 64 (rowAt d) (8 * i + j) (omega arith) ∙ ap₂ (λ (x y : ℕ). at (gRow d x) y) r c
+
+pub h-is : (d : List ℤ) (j : ℕ) → j < 8 → firstStep (λ i. at (table 64 (rowAt d)) (8 * i + j)) ≡ hColumn d j
+unfolding hColumn
+h-is d j h = first-same (λ i. at (table 64 (rowAt d)) (8 * i + j)) (λ i. at (gRow d i) j) (λ i hi. row-in d i j hi h)
+
+pub m-is : (d : List ℤ) (j : ℕ) → j < 8 → oneDimensional (λ i. at (table 64 (rowAt d)) (8 * i + j)) ≡ mColumn d j
+unfolding kColumn mColumn
+m-is d j h = ap (λ e. thirdStep (at (secondStep (at e)))) (h-is d j h)
+
 pub columns-are : (d : List ℤ) (k : ℕ) → k < 64 → columnAt (table 64 (rowAt d)) k ≡ residualAt d k
-unfolding hColumn kColumn mColumn
-columns-are d k h =
-    ap (λ l. rounded (at l (k / 8)))
-    (eight-same (λ i. at (table 64 (rowAt d)) (8 * i + k % 8)) (λ i. at (gRow d i) (k % 8)) (λ i hi.
-    let r : (8 * i + k % 8) / 8 ≡ i = omega arith in
-    let c : (8 * i + k % 8) % 8 ≡ k % 8 = omega arith in
-    getD-table (pos 0) 64 (rowAt d) (8 * i + k % 8) (omega arith) ∙ ap₂ (λ (x y : ℕ). at (gRow d x) y) r c))
+columns-are d k h = ap (λ l. rounded (at l (k / 8))) (m-is d (k % 8) (omega arith))
 
--- ---- residuals come from the first 64 numbers alone
-row-same : (d d′ : List ℤ) (i : ℕ) → i < 8 → ((k : ℕ) → k < 64 → at d k ≡ at d′ k) → gRow d i ≡ gRow d′ i
-unfolding eRow fRow gRow
-row-same d d′ i h e = eight-same (λ j. at d (8 * i + j)) (λ j. at d′ (8 * i + j)) (λ j hj. e (8 * i + j) (omega arith))
+-- ---- every value comes from the first 64 numbers alone
+module _ (d d′ : List ℤ) (same : (k : ℕ) → k < 64 → at d k ≡ at d′ k) where
+  pub e-same : (i : ℕ) → i < 8 → eRow d i ≡ eRow d′ i
+  unfolding eRow
+  e-same i h = first-same (λ j. at d (8 * i + j)) (λ j. at d′ (8 * i + j)) (λ j l. same (8 * i + j) (omega arith))
 
-column-same : (d d′ : List ℤ) (j : ℕ) → ((k : ℕ) → k < 64 → at d k ≡ at d′ k) → mColumn d j ≡ mColumn d′ j
-unfolding hColumn kColumn mColumn
-column-same d d′ j e = eight-same (λ i. at (gRow d i) j) (λ i. at (gRow d′ i) j) (λ i hi. ap (λ l. at l j) (row-same d d′ i hi e))
+  pub f-same : (i : ℕ) → i < 8 → fRow d i ≡ fRow d′ i
+  unfolding fRow
+  f-same i h = ap (λ e. secondStep (at e)) (e-same i h)
+
+  pub g-same : (i : ℕ) → i < 8 → gRow d i ≡ gRow d′ i
+  unfolding gRow
+  g-same i h = ap (λ f. thirdStep (at f)) (f-same i h)
+
+  pub h-same : (j : ℕ) → hColumn d j ≡ hColumn d′ j
+  unfolding hColumn
+  h-same j = first-same (λ i. at (gRow d i) j) (λ i. at (gRow d′ i) j) (λ i l. ap (λ g. at g j) (g-same i l))
+
+  pub k-same : (j : ℕ) → kColumn d j ≡ kColumn d′ j
+  unfolding kColumn
+  k-same j = ap (λ h. secondStep (at h)) (h-same j)
+
+  pub m-same : (j : ℕ) → mColumn d j ≡ mColumn d′ j
+  unfolding mColumn
+  m-same j = ap (λ k. thirdStep (at k)) (k-same j)
 
 -- so the residuals of a list are those of its blocks
 pub of-block : OfBlock 64 inverse8x8
 unfolding inverse8x8
 of-block = record {
   long = λ d. length-table (pos 0) 64 (residualAt d);
-  same = λ d d′ e. table-same 64 (residualAt d) (residualAt d′) (λ k h. ap (λ l. rounded (at l (k / 8))) (column-same d d′ (k % 8) e));
+  same = λ d d′ e. table-same 64 (residualAt d) (residualAt d′) (λ k h. ap (λ l. rounded (at l (k / 8))) (m-same d d′ e (k % 8)));
 }

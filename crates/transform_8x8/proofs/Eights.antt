@@ -77,8 +77,11 @@ module _ (k : ℕ) (f : ℕ → ℤ) (small : T (leb k 2147483647)) (w : (n : �
   all-words = ap (λ e. thirdStep (at (secondStep (at e)))) first-words
 
 -- the steps see no more than eight numbers
-pub eight-same : (f g : ℕ → ℤ) → ((n : ℕ) → n < 8 → f n ≡ g n) → oneDimensional f ≡ oneDimensional g
+pub first-same : (f g : ℕ → ℤ) → ((n : ℕ) → n < 8 → f n ≡ g n) → firstStep f ≡ firstStep g
 unfolding firstStep
-eight-same f g h =
-    ap (λ v. oneDimensional (at v))
+first-same f g h =
+    ap (λ v. firstStep (at v))
     (eight-is (h 0 (lit< tt)) (h 1 (lit< tt)) (h 2 (lit< tt)) (h 3 (lit< tt)) (h 4 (lit< tt)) (h 5 (lit< tt)) (h 6 (lit< tt)) (h 7 (lit< tt)))
+
+pub eight-same : (f g : ℕ → ℤ) → ((n : ℕ) → n < 8 → f n ≡ g n) → oneDimensional f ≡ oneDimensional g
+eight-same f g h = ap (λ e. thirdStep (at (secondStep (at e)))) (first-same f g h)

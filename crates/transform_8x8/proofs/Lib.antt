@@ -3,4 +3,5 @@ pub mod Bounded
 pub mod Columns
 pub mod Eights
 pub mod Flat
+pub mod Halfway
 pub mod Words

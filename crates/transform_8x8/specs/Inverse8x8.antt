@@ -1,11 +1,13 @@
 -- The transformation of residual 8x8 blocks, clause 8.5.13.2: rows, then columns, then rounding. `shrZ z (2 ^ n)` is z >> n, which rounds down.
+use mathlib.Core.Bool.{Bool, _&&_}
 use mathlib.Core.List.{List, [], _∷_}
 use Prim.Native.Nat.{ℕ, _+_, _*_}
 use lib.IntN.{ℤ, negℤ, _+ℤ_, _-ℤ_}
 use lib.Signed.{shrZ}
 use Rattle.laws.specs.Range.{at}
-use Rattle.laws.specs.Table.{blockOf}
+use Rattle.laws.specs.Table.{allBelow, blockOf}
 use Rattle.residual.specs.Inverse.{rounded}
+use Rattle.residual.specs.Numbers.{inRange, lastInRange}
 
 -- ---- the one-dimensional transformation of eight numbers, of a row and of a column
 -- e from d in a row, h from g in a column
@@ -75,3 +77,10 @@ module _ (d : List ℤ) where
   -- the 64 residuals r[ i ][ j ] = ( m[ i ][ j ] + 32 ) >> 6, row by row
   unfoldable pub inverse8x8 : List ℤ
   inverse8x8 = blockOf 8 (λ j i. rounded (at (mColumn j) i))
+
+  -- what the clause demands of each of them for 8-bit samples: d, e, f, g, h and k lie in -32768..32767, and m in -32768..32735
+  unfoldable pub inRange8x8 : Bool
+  inRange8x8 =
+      allBelow 64 (λ k. inRange (at d k))
+      && allBelow 8 (λ i. allBelow 8 (λ j. inRange (at (eRow i) j) && inRange (at (fRow i) j) && inRange (at (gRow i) j)))
+      && allBelow 8 (λ j. allBelow 8 (λ i. inRange (at (hColumn j) i) && inRange (at (kColumn j) i) && lastInRange (at (mColumn j) i)))

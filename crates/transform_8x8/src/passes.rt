@@ -1,43 +1,56 @@
 // The two passes over a block: eight rows, then eight columns.
 ghost use mathlib.Core.Path.{_≡_};
-ghost use mathlib.Core.Bool.{true};
+ghost use mathlib.Core.Bool.{true, _&&_};
 ghost use mathlib.Core.List.{List, _++_};
 ghost use Prim.Native.Nat.{ℕ, _+_, _*_, _≤_, _<_};
 ghost use lib.IntN.{ℤ};
 ghost use lib.ListN.{length, drop};
 ghost use Rattle.laws.specs.Range.{Within, AllWithin, at};
-ghost use Rattle.laws.specs.Table.{table, onto};
+ghost use Rattle.laws.specs.Table.{table, onto, allBelow};
+ghost use Rattle.residual.specs.Extents.{held, allOfFour};
 ghost use Rattle.residual.specs.Inverse.{rounded};
-ghost use Rattle.residual.specs.Numbers.{allInRange};
-ghost use Rattle.transform_8x8.specs.Inverse8x8.{oneDimensional, gRow, inverse8x8};
+ghost use Rattle.residual.specs.Numbers.{inRange, allInRange, lastInRange};
+ghost use Rattle.transform_8x8.specs.Inverse8x8.{firstStep, oneDimensional, eRow, gRow, inverse8x8, inRange8x8};
 ghost use Rattle.transform_8x8.specs.inner.ByColumn.{ByColumn, rowAt, columnAt};
+ghost use Rattle.transform_8x8.specs.inner.Told.{oddOf, allOfEight, columnIn, rowTold, columnTold};
+use super::steps::Steps;
 use super::steps::one_dimensional;
+use residual::extent::Extent;
+use residual::extent::with_four;
+use residual::extent::with_last_four;
 
-// The residuals of the first 64 numbers of a list over the first 64 places of `out`.
-pub(crate) fn invert(d: &[i32], out: &mut [i16])
+// The residuals of the first 64 numbers of a list over the first 64 places of `out`. The extent reaches over their values.
+pub(crate) fn invert(d: &[i32], out: &mut [i16], x: Extent) -> Extent
     requires { ⌜ (64 ≤ length (now d)) × (64 ≤ length (now out)) × (allInRange (now d) ≡ true) ⌝ }
+    ensures { λ r. ⌜ held r ≡ (held x && inRange8x8 (now (d .entry))) ⌝ }
     ensures { λ _. ⌜ now (out .exit) ≡ inverse8x8 (now (d .entry)) ++ drop 64 (now (out .entry)) ⌝ }
 {
-    let g = rows(d);
-    columns(&g, out);
+    let mut g = [0i32; 64];
+    let after_rows = rows(d, &mut g, x);
+    columns(&g, out, after_rows)
 }
 
 // The rows, transformed.
-fn rows(d: &[i32]) -> [i32; 64]
-    requires { ⌜ (64 ≤ length (now d)) × (allInRange (now d) ≡ true) ⌝ }
-    ensures { λ r. ⌜ r ≡ table 64 (rowAt (now (d .entry))) ⌝ }
+fn rows(d: &[i32], g: &mut [i32], x: Extent) -> Extent
+    requires { ⌜ (64 ≤ length (now d)) × (allInRange (now d) ≡ true) × (length (now g) ≡ 64) ⌝ }
+    ensures { λ r. ⌜ held r ≡ (held x && allBelow 8 (rowTold (now (d .entry)))) ⌝ }
+    ensures { λ _. ⌜ now (g .exit) ≡ table 64 (rowAt (now (d .entry))) ⌝ }
 {
-    let mut g = [0i32; 64];
+    let mut seen = x;
     for i in 0..8 {
-        put_row(&mut g, i, row(d, i));
+        let s = row(d, i);
+        let first = s.e;
+        let last = s.g;
+        put_row(g, i, last);
+        seen = with_odd(seen, first);
     }
-    g
+    seen
 }
 
 // Row `i` of the coefficients, transformed.
-fn row(d: &[i32], i: usize) -> [i32; 8]
+fn row(d: &[i32], i: usize) -> Steps
     requires { ⌜ (64 ≤ length (now d)) × (allInRange (now d) ≡ true) × (i < 8) ⌝ }
-    ensures { λ r. ⌜ r ≡ gRow (now (d .entry)) i ⌝ }
+    ensures { λ r. ⌜ (r .e ≡ eRow (now (d .entry)) i) × (r .g ≡ gRow (now (d .entry)) i) ⌝ }
 {
     let k = 8 * i;
     one_dimensional(
@@ -64,19 +77,27 @@ fn put_row(g: &mut [i32], i: usize, v: [i32; 8])
 }
 
 // The columns of the transformed rows, transformed and rounded.
-fn columns(g: &[i32], out: &mut [i16])
+fn columns(g: &[i32], out: &mut [i16], x: Extent) -> Extent
     requires { ⌜ (length (now g) ≡ 64) × AllWithin 241664 (now g) × (64 ≤ length (now out)) ⌝ }
+    ensures { λ r. ⌜ held r ≡ (held x && allBelow 8 (columnTold (now (g .entry)))) ⌝ }
     ensures { λ _. ⌜ now (out .exit) ≡ onto 64 (columnAt (now (g .entry))) (now (out .entry)) ⌝ }
 {
+    let mut seen = x;
     for j in 0..8 {
-        put_column(out, j, column(g, j));
+        let s = column(g, j);
+        let first = s.e;
+        let last = s.g;
+        put_column(out, j, last);
+        seen = with_last_eight(with_odd(with_column(seen, g, j), first), last);
     }
+    seen
 }
 
 // Column `j`, transformed.
-fn column(g: &[i32], j: usize) -> [i32; 8]
+fn column(g: &[i32], j: usize) -> Steps
     requires { ⌜ (length (now g) ≡ 64) × AllWithin 241664 (now g) × (j < 8) ⌝ }
-    ensures { λ r. ⌜ r ≡ oneDimensional (λ i. at (now (g .entry)) (8 * i + j)) ⌝ }
+    ensures { λ r. ⌜ r .e ≡ firstStep (λ i. at (now (g .entry)) (8 * i + j)) ⌝ }
+    ensures { λ r. ⌜ r .g ≡ oneDimensional (λ i. at (now (g .entry)) (8 * i + j)) ⌝ }
 {
     one_dimensional(
         g[j],
@@ -107,4 +128,28 @@ fn round(m: i32) -> i16
     ensures { λ r. ⌜ r ≡ rounded m ⌝ }
 {
     ((m + 32) >> 6) as i16
+}
+
+// The extent with the values at the odd places of a first step. No later value tells of these; where the last ones of a pass are in range, so are all others.
+fn with_odd(x: Extent, e: [i32; 8]) -> Extent
+    ensures { λ r. ⌜ held r ≡ (held x && allOfFour inRange (oddOf e)) ⌝ }
+{
+    with_four(x, [e[1], e[3], e[5], e[7]])
+}
+
+// The extent with column `j` of the transformed rows.
+fn with_column(x: Extent, g: &[i32], j: usize) -> Extent
+    requires { ⌜ (length (now g) ≡ 64) × (j < 8) ⌝ }
+    ensures { λ r. ⌜ held r ≡ (held x && columnIn (now (g .entry)) j) ⌝ }
+{
+    let half = with_four(x, [g[j], g[8 + j], g[16 + j], g[24 + j]]);
+    with_four(half, [g[32 + j], g[40 + j], g[48 + j], g[56 + j]])
+}
+
+// The extent with eight values after the second pass.
+fn with_last_eight(x: Extent, m: [i32; 8]) -> Extent
+    ensures { λ r. ⌜ held r ≡ (held x && allOfEight lastInRange m) ⌝ }
+{
+    let half = with_last_four(x, [m[0], m[1], m[2], m[3]]);
+    with_last_four(half, [m[4], m[5], m[6], m[7]])
 }

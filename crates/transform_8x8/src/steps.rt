@@ -4,6 +4,12 @@ ghost use mathlib.Core.List.{[], _∷_};
 ghost use Rattle.laws.specs.Range.{AllWithin, at};
 ghost use Rattle.transform_8x8.specs.Inverse8x8.{firstStep, secondStep, thirdStep, oneDimensional};
 
+// The values after the first step and after the third, of a row; those of a column are h and m.
+pub(crate) struct Steps {
+    pub e: [i32; 8],
+    pub g: [i32; 8],
+}
+
 // All three, for the coefficients of a row and for the larger numbers of a column.
 pub(crate) fn one_dimensional(
     d0: i32,
@@ -14,13 +20,15 @@ pub(crate) fn one_dimensional(
     d5: i32,
     d6: i32,
     d7: i32,
-) -> [i32; 8]
+) -> Steps
     requires { ⌜ AllWithin 241664 (d0 ∷ d1 ∷ d2 ∷ d3 ∷ d4 ∷ d5 ∷ d6 ∷ d7 ∷ []) ⌝ }
-    ensures { λ r. ⌜ r ≡ oneDimensional (at (d0 ∷ d1 ∷ d2 ∷ d3 ∷ d4 ∷ d5 ∷ d6 ∷ d7 ∷ [])) ⌝ }
+    ensures { λ r. ⌜ r .e ≡ firstStep (at (d0 ∷ d1 ∷ d2 ∷ d3 ∷ d4 ∷ d5 ∷ d6 ∷ d7 ∷ [])) ⌝ }
+    ensures { λ r. ⌜ r .g ≡ oneDimensional (at (d0 ∷ d1 ∷ d2 ∷ d3 ∷ d4 ∷ d5 ∷ d6 ∷ d7 ∷ [])) ⌝ }
 {
     let e = first_step(d0, d1, d2, d3, d4, d5, d6, d7);
     let f = second_step(e[0], e[1], e[2], e[3], e[4], e[5], e[6], e[7]);
-    third_step(f[0], f[1], f[2], f[3], f[4], f[5], f[6], f[7])
+    let g = third_step(f[0], f[1], f[2], f[3], f[4], f[5], f[6], f[7]);
+    Steps { e, g }
 }
 
 fn first_step(d0: i32, d1: i32, d2: i32, d3: i32, d4: i32, d5: i32, d6: i32, d7: i32) -> [i32; 8]

@@ -1,4 +1,5 @@
 //! What the differential runs, the fixed lists and the benchmark share: numbers at random, records, and pictures over both sides.
+pub mod ends;
 pub mod list;
 #[path = "../../tests/store/mod.rs"]
 pub mod store;
@@ -52,7 +53,7 @@ impl Random {
         }
     }
 
-    /// Numbers inside the range, small, large or at its ends.
+    /// Numbers inside the range of a number, small, large or at its ends.
     pub fn numbers(&mut self, out: &mut [i32]) {
         let reach = self.pick(&[1, 40, 300, 5000, 32768]);
         let sparse = self.below(3);
@@ -86,6 +87,17 @@ impl Record {
     pub fn blocks_mut(&mut self) -> impl Iterator<Item = &mut [i32]> {
         let (luma, chroma) = self.numbers.split_at_mut(256);
         luma.chunks_exact_mut(luma_block(self.kind)).chain(chroma.chunks_exact_mut(16))
+    }
+
+    /// One of the blocks of a plane: 0 is luma, 1 Cb and 2 Cr.
+    pub fn block_of(&mut self, random: &mut Random, plane: usize) -> &mut [i32] {
+        let (numbers, len) = match plane {
+            0 => (&mut self.numbers[..256], luma_block(self.kind)),
+            1 => (&mut self.numbers[256..320], 16),
+            _ => (&mut self.numbers[320..], 16),
+        };
+        let blocks = numbers.len() / len;
+        &mut numbers[len * random.below(blocks)..][..len]
     }
 }
 
@@ -121,6 +133,7 @@ pub fn good_record(random: &mut Random, kind: u8, n: Near) -> Record {
     let whole = driver::marks(0, 0, n);
     r.chroma_mode = choose(random, &|mode| rules::permitted_chroma(mode, whole));
     random.numbers(&mut r.numbers);
+    r.blocks_mut().for_each(ends::bring_in);
     r
 }
 

@@ -159,7 +159,7 @@ fn macroblock_as<const CHECKS: bool, const SHORT: bool>(
         if !permitted(kind, modes, chroma_mode, n) {
             return 7;
         }
-        if rules::in_range(numbers).is_err() {
+        if rules::all_transformable(kind, numbers).is_err() {
             return 8;
         }
     }

@@ -1,5 +1,5 @@
 //! Each routine inside the rules' domain is the Rust's own, and the 8x8 inverse the clause's; outside it, the refusal that the rules give.
-use crate::{intra_pred, inverse_8x8, predict, transform};
+use crate::{halfway, intra_pred, inverse_8x8, predict, transform};
 
 pub const LOW: i32 = -32768;
 pub const HIGH: i32 = 32767;
@@ -66,15 +66,57 @@ fn known(mode: u8, last: u8, permitted: bool) -> Result<(), u32> {
     Ok(())
 }
 
-/// The least and the greatest number are kept and looked at once: a way out at the first bad number would keep the loop from being
+/// The least and the greatest number, or 0, are kept and looked at once: a way out at the first bad number would keep the loop from being
 /// computed several numbers at a time.
-pub fn in_range(numbers: &[i32]) -> Result<(), u32> {
+fn lie_in(numbers: &[i32], low: i32, high: i32) -> bool {
     let (least, greatest) = numbers.iter().fold((0, 0), |(least, greatest), &n| (n.min(least), n.max(greatest)));
-    if LOW <= least && greatest <= HIGH {
+    low <= least && greatest <= high
+}
+
+pub fn in_range(numbers: &[i32]) -> Result<(), u32> {
+    if lie_in(numbers, LOW, HIGH) {
         Ok(())
     } else {
         Err(8)
     }
+}
+
+/// Coefficients that are no further from 0 than this are in range together, whatever they are, in a 4x4 block and in an 8x8 block.
+const NEAR_4X4: i32 = 2_045;
+const NEAR_8X8: i32 = 500;
+
+/// The same of the sum of their distances from 0. In a 4x4 block a coefficient counts once at most in every value. In an 8x8 block it counts 9/4 times at
+/// most, all together less than 63 times the furthest, and what is cut off on the way makes less than 43.
+const SUM_4X4: i32 = 32_735;
+const SUM_8X8: i32 = 14_500;
+
+/// Whether coefficients are so near 0 that no value of their block can leave the range. It spares most blocks the look at their values.
+fn surely_in_range(deq: &[i32]) -> bool {
+    let sum: i32 = deq.iter().map(|v| v.unsigned_abs().min(32_768) as i32).sum();
+    if deq.len() == 16 {
+        sum <= SUM_4X4
+    } else {
+        sum <= SUM_8X8 || lie_in(deq, -NEAR_8X8, NEAR_8X8)
+    }
+}
+
+/// What the inverse of a 4x4 or 8x8 block refuses: a number out of range, or a block that leaves the range on the way.
+pub fn transformable(deq: &[i32]) -> Result<(), u32> {
+    if surely_in_range(deq) || (lie_in(deq, LOW, HIGH) && halfway::quickly_in_range(deq)) {
+        Ok(())
+    } else {
+        Err(8)
+    }
+}
+
+/// The same of every block of a macroblock of this kind.
+pub fn all_transformable(kind: u8, numbers: &[i32]) -> Result<(), u32> {
+    let (side, near) = if kind == 1 { (64, NEAR_8X8) } else { (16, NEAR_4X4) };
+    if lie_in(numbers, -near, near) {
+        return Ok(());
+    }
+    let (luma, chroma) = numbers.split_at(256);
+    luma.chunks_exact(side).chain(chroma.chunks_exact(16)).try_for_each(transformable)
 }
 
 /// What a 4x4 or 8x8 predictor refuses: an unknown mode, or one that the marks do not permit.
@@ -144,17 +186,17 @@ pub fn chroma8x8_plane_pred(mode: u8, pred: &mut [u8], rec: &[u8], base: usize, 
 }
 
 pub fn inverse_4x4(deq: &[i32; 16]) -> Result<[i32; 16], u32> {
-    in_range(deq)?;
+    transformable(deq)?;
     Ok(transform::inverse_core(deq))
 }
 
 pub fn inverse_8x8(deq: &[i32; 64]) -> Result<[i32; 64], u32> {
-    in_range(deq)?;
+    transformable(deq)?;
     Ok(inverse_8x8::inverse_8x8(deq))
 }
 
 pub fn reconstruct_4x4(deq: &[i32; 16], pred: &[i32; 16]) -> Result<[u8; 16], u32> {
-    in_range(deq)?;
+    transformable(deq)?;
     in_range(pred)?;
     Ok(predict::reconstruct_4x4(deq, pred))
 }
@@ -194,7 +236,7 @@ fn squares(pred: &[u8], from: Square, rec: &[u8], to: Square) -> Result<(), u32>
 
 pub fn reconstruct_4x4_into(deq: &[i32; 16], pred: &[u8], from: Square, rec: &mut [u8], to: Square) -> Result<(), u32> {
     squares(pred, from, rec, to)?;
-    in_range(deq)?;
+    transformable(deq)?;
     predict::reconstruct_4x4_into(deq, pred, from.offset, from.stride, rec, to.offset, to.stride);
     Ok(())
 }

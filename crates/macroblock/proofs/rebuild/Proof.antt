@@ -2,10 +2,11 @@
 -- write: then every square lies in its plane, no mode is refused, and the residuals are the definition's. Assumes nothing.
 use mathlib.Core.Path.{_≡_, refl, sym, _∙_}
 use mathlib.Core.Bool.{true}
+use mathlib.Core.List.{[]}
 use native.Mathlib.Omega.{arith}
 use borrow.Author.Tests.{not-true, not-false}
 use lib.ListN.{length}
-use Rattle.laws.proofs.Answers.{refused}
+use Rattle.laws.proofs.Answers.{holds, broken, refused}
 use Rattle.maps.specs.Neighbours.{marksOf}
 use Rattle.macroblock.specs.declared.Record.{Record}
 use Rattle.macroblock.specs.Kinds.{recordOf}
@@ -70,8 +71,8 @@ returns-3 c =
     let r = c .before .before in
     let d = r .before .before in
     let u = start (roomed d) in
-    let z : r .residuals-of .result ≡ 0 → ⊥ = λ e. omega arith in
-    (r .residuals-of .ensures .0 ∙ sym (numbers-decide (marksOf (u .args .marks)) (given u) _ (has (roomed d)) (sym (d .before .record-answer .ensures) ∙ passed d)), (sym (refused _ _ _ z), (sym (refused _ _ _ z), sym (refused _ _ _ z))))
+    let out = sym (r .residuals-of .ensures .0) ∙ not-true _ (c .if3 .taken) in
+    (sym (numbers-decide (marksOf (u .args .marks)) (given u) _ (has (roomed d)) (sym (d .before .record-answer .ensures) ∙ passed d) ∙ broken 8 [] out), (refl, (refl, refl)))
 
 luma-square-requires : tie.Need-luma-square-requires
 luma-square-requires c κs =
@@ -100,9 +101,10 @@ returns-4 c =
     let u = start (roomed d) in
     let n = u .args .numbers .now in
     let k = firstFor (u .args .kind) in
-    let T = r .residuals-of .ensures .1 (omega arith) in
+    let in-range = not-false _ (f .if3 .left) in
+    let T = r .residuals-of .ensures .1 in-range in
     let l = first-few (u .args .kind) in (
-      sym (numbers-decide (marksOf (u .args .marks)) (given u) _ (has (roomed d)) (sym (d .before .record-answer .ensures) ∙ passed d) ∙ sym (r .residuals-of .ensures .0) ∙ omega arith),
+      sym (numbers-decide (marksOf (u .args .marks)) (given u) _ (has (roomed d)) (sym (d .before .record-answer .ensures) ∙ passed d) ∙ holds 8 [] (sym (r .residuals-of .ensures .0) ∙ in-range)),
       (p₁ .luma-square .ensures n T, (p₂ .chroma-square .ensures k n (omega arith) T, p₃ .chroma-square2 .ensures k n (omega arith) T)),
     )
 

@@ -405,7 +405,7 @@ fn inverse<const B: usize>(inputs: &Inputs, name: &str, export: Inverse, rust: i
         vec![
             &mut |i| {
                 let deq = numbers(i);
-                rules::in_range(deq).unwrap();
+                rules::transformable(deq).unwrap();
                 let block = rust(deq);
                 black_box(&block);
             },
@@ -424,7 +424,13 @@ fn inverse<const B: usize>(inputs: &Inputs, name: &str, export: Inverse, rust: i
 
 type Sums = unsafe extern "C" fn(*const i32, usize, *const i32, usize, *mut u8, usize) -> u32;
 
-fn sums<const B: usize>(inputs: &Inputs, name: &str, export: Sums, rust: impl Fn(&[i32; B], &[i32; B]) -> [u8; B]) -> Row {
+fn sums<const B: usize>(
+    inputs: &Inputs,
+    name: &str,
+    export: Sums,
+    rust: impl Fn(&[i32; B], &[i32; B]) -> [u8; B],
+    check: impl Fn(&[i32]) -> Result<(), u32>,
+) -> Row {
     let mut ours = [0; B];
     let both = |i: usize| -> (&[i32; B], &[i32; B]) { (first(&inputs.numbers[i]), first(&inputs.predictions[i])) };
     compare(
@@ -434,7 +440,7 @@ fn sums<const B: usize>(inputs: &Inputs, name: &str, export: Sums, rust: impl Fn
         vec![
             &mut |i| {
                 let (a, p) = both(i);
-                rules::in_range(a).unwrap();
+                check(a).unwrap();
                 rules::in_range(p).unwrap();
                 let block = rust(a, p);
                 black_box(&block);
@@ -501,9 +507,9 @@ fn blocks(inputs: &Inputs) -> Vec<Row> {
     vec![
         inverse(inputs, "inverse_4x4", jiwarbend_inverse_4x4, transform::inverse_core),
         inverse(inputs, "inverse_8x8", jiwarbend_inverse_8x8, inverse_8x8),
-        sums(inputs, "reconstruct_4x4", jiwarbend_reconstruct_4x4, predict::reconstruct_4x4),
-        sums(inputs, "add_residual_4x4", jiwarbend_add_residual_4x4, predict::add_residual_4x4),
-        sums(inputs, "add_residual_8x8", jiwarbend_add_residual_8x8, predict::add_residual_8x8),
+        sums(inputs, "reconstruct_4x4", jiwarbend_reconstruct_4x4, predict::reconstruct_4x4, rules::transformable),
+        sums(inputs, "add_residual_4x4", jiwarbend_add_residual_4x4, predict::add_residual_4x4, rules::in_range),
+        sums(inputs, "add_residual_8x8", jiwarbend_add_residual_8x8, predict::add_residual_8x8, rules::in_range),
         into_plane(
             inputs,
             "reconstruct_4x4_into",

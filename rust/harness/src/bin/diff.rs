@@ -1,15 +1,17 @@
 //! The port against the Rust it was ported from, call by call: answers, what was written and what was not.
 //! Inside the rules' domain the Rust's own routine says what is right, and of the 8x8 inverse a second writing of its clause; outside it, the
-//! rules' refusals do (`oracle::rules`).
+//! rules' refusals do (`oracle::rules`), of which the range inside the inverses is a second writing too (`oracle::halfway`).
 //! Every limit is drawn on both sides, every list in its own length, one short, one long and empty, and guards stand around every buffer. How
-//! often each answer was given is counted: an answer that a call can give and has not given is a failure too. What the Rust says of a 4x4 or
-//! 8x8 case is also due, transposed, of the case turned on its side.
+//! often each answer was given is counted: an answer that a call can give and has not given is a failure too, and so is one that a family of blocks
+//! near the ends of the range gives seldom. What the Rust says of a 4x4 or 8x8 case is also due, transposed, of the case turned on its side.
+use harness::ends::{at_an_end, bring_in, past_an_end};
 use harness::{good_record, good_records, shuffled, slice_map, Guarded, Memory, Random, Record};
 use jiwarbend::block;
 use jiwarbend::sys::*;
 use jiwarbend::turned::{Case, Case4x4, Case8x8};
 use oracle::rules::{self, Marks, Square};
-use oracle::{driver, predict};
+use oracle::{driver, halfway, predict};
+use std::collections::BTreeMap;
 
 struct Report {
     scale: usize,
@@ -18,20 +20,31 @@ struct Report {
     seen: [u64; 9],
 }
 
-/// The calls of one routine: which answers are due, how often each was given, how many cases came by turning, and how many in a hundred must.
+/// The calls of one routine: which answers are due, how often each was given and in how many of a hundred cases it must be, how many cases came by
+/// turning and how many in a hundred must, and what else the cases lack.
 struct Routine<'a> {
-    name: &'static str,
+    name: String,
     due: &'static [u32],
     seen: [u64; 9],
+    least_each: u64,
     wrong: u64,
     turned: u64,
     least_turned: u64,
+    lacks: String,
     report: &'a mut Report,
 }
 
 impl Report {
-    fn routine(&mut self, name: &'static str, due: &'static [u32]) -> Routine<'_> {
-        Routine { name, due, seen: [0; 9], wrong: 0, turned: 0, least_turned: 0, report: self }
+    fn routine(&mut self, name: impl Into<String>, due: &'static [u32]) -> Routine<'_> {
+        let name = name.into();
+        Routine { name, due, seen: [0; 9], least_each: 0, wrong: 0, turned: 0, least_turned: 0, lacks: String::new(), report: self }
+    }
+
+    /// Cases that are accepted or refused for their range, and often enough each.
+    fn family(&mut self, name: &str, title: &str) -> Routine<'_> {
+        let mut routine = self.routine(format!("{name}, {title}"), &[0, 8]);
+        routine.least_each = 10;
+        routine
     }
 
     /// `n` cases, or fewer where a short run was asked for.
@@ -74,10 +87,15 @@ impl Drop for Routine<'_> {
         if few {
             verdict += ", TOO FEW BY TURNING";
         }
+        let seldom: Vec<u32> = self.due.iter().copied().filter(|&n| 100 * self.seen[n as usize] < self.least_each * cases).collect();
+        if !seldom.is_empty() {
+            verdict += &format!(", TOO FEW {seldom:?}");
+        }
+        verdict += &self.lacks;
         let counts: Vec<String> = answers().map(|n| format!("{n}: {}", self.seen[n as usize])).collect();
         let turned = if self.turned > 0 { format!(", {} of them by turning,", self.turned) } else { String::new() };
-        println!("{:<24} {cases:>9} cases{turned} {verdict}; answers {}", self.name, counts.join(", "));
-        if self.wrong == 0 && missing.is_empty() && odd.is_empty() && !few {
+        println!("{:<32} {cases:>9} cases{turned} {verdict}; answers {}", self.name, counts.join(", "));
+        if self.wrong == 0 && missing.is_empty() && odd.is_empty() && !few && seldom.is_empty() && self.lacks.is_empty() {
             self.report.passed += 1;
         } else {
             self.report.failed += 1;
@@ -306,8 +324,8 @@ fn from_plane(
 
 type Sums = unsafe extern "C" fn(*const i32, usize, *const i32, usize, *mut u8, usize) -> u32;
 
-/// The numbers at the ends of the range, and the first ones past them.
-const LIMITS: [i32; 4] = [-32768, -32769, 32767, 32768];
+/// The numbers at the ends of the range, and the first ones past them; 32735 is the end of what a transform's last values may be.
+const LIMITS: [i32; 6] = [-32768, -32769, 32735, 32736, 32767, 32768];
 
 /// Numbers of which now and then one is out of range.
 fn numbers(random: &mut Random, out: &mut [i32]) {
@@ -318,9 +336,27 @@ fn numbers(random: &mut Random, out: &mut [i32]) {
     }
 }
 
+/// What the first list of a sum holds: coefficients, whose block may leave the range on the way, or residuals.
+#[derive(Clone, Copy, PartialEq)]
+enum First {
+    Coefficients,
+    Residuals,
+}
+
+impl First {
+    /// Numbers of one of the families of coefficients in turn, or numbers of which now and then one is out of range.
+    fn draw(self, random: &mut Random, round: usize, out: &mut [i32]) {
+        match self {
+            First::Coefficients => coefficients(random, round % FAMILIES.len(), out),
+            First::Residuals => numbers(random, out),
+        }
+    }
+}
+
 fn sums<const B: usize>(
     report: &mut Report,
     name: &'static str,
+    of: First,
     export: Sums,
     rust: impl Fn(&[i32; B], &[i32; B]) -> Result<[u8; B], u32>,
 ) {
@@ -334,8 +370,8 @@ fn sums<const B: usize>(
         let answer = unsafe { export(first.as_ptr(), first.len(), pred.as_ptr(), pred.len(), out.as_mut_ptr(), out.len()) };
         (answer, buffer)
     };
-    for _ in 0..rounds {
-        numbers(&mut random, &mut first);
+    for round in 0..rounds {
+        of.draw(&mut random, round, &mut first);
         if random.one_in(4) {
             numbers(&mut random, &mut pred);
         } else {
@@ -362,6 +398,16 @@ fn sums<const B: usize>(
         let wanted = (if right { 8 } else { 2 }, Guarded::filled(b));
         routine.told(call(&wide[..f], &wide[..p], b), wanted, || format!("lengths {f}, {p}, {b}, numbers too large"));
     }
+    drop(routine);
+    if of == First::Coefficients {
+        let mut routine = report.family(name, "at an end");
+        for _ in 0..rounds / 5 {
+            at_an_end(&mut random, &mut first);
+            pred = std::array::from_fn(|_| random.byte() as i32);
+            let wanted = left_behind(B, rust(&first, &pred));
+            routine.told(call(&first, &pred, B), wanted, || format!("{first:?}, {pred:?}"));
+        }
+    }
 }
 
 /// A square that lies in a buffer, just lies in it, just leaves it, or lies nowhere near.
@@ -383,6 +429,7 @@ fn square(random: &mut Random, len: usize) -> Square {
 fn into_plane(
     report: &mut Report,
     name: &'static str,
+    of: First,
     port: impl Fn(&[i32], &[u8], Square, &mut [u8], Square) -> u32,
     rust: impl Fn(&[i32; 16], &[u8], Square, &mut [u8], Square) -> Result<(), u32>,
     lists: bool,
@@ -421,7 +468,7 @@ fn into_plane(
         if round % 16 == 0 {
             random.samples(&mut samples[..300]);
         }
-        numbers(&mut random, &mut first);
+        of.draw(&mut random, round, &mut first);
         let (pred_len, rec_len) = if random.one_in(50) { (12_300, 12_310) } else { (random.below(140), random.below(140)) };
         let (from, to) = (square(&mut random, pred_len), square(&mut random, rec_len));
         one(&mut routine, &first, &samples[..pred_len], from, rec_len, to);
@@ -434,6 +481,16 @@ fn into_plane(
                 let answer = port(&vec![v; len], &samples[..16], square, got.inner(), square);
                 routine.told((answer, got), (2, Guarded::filled(16)), || format!("a list of {len}"));
             }
+        }
+    }
+    drop(routine);
+    if of == First::Coefficients {
+        let mut routine = report.family(name, "at an end");
+        for _ in 0..rounds / 5 {
+            at_an_end(&mut random, &mut first);
+            let (from, to) = (random.below(200), random.below(200));
+            let [from, to] = [from, to].map(|offset| Square { offset, stride: 4 + random.below(20) });
+            one(&mut routine, &first, &samples[..300], from, 300, to);
         }
     }
 }
@@ -511,19 +568,27 @@ fn anywhere(random: &mut Random) -> i32 {
     rules::LOW + random.below(65536) as i32
 }
 
-/// Coefficients of one of four families: mixed and now and then out of range, anywhere in the range, at its two ends, and a few among zeros.
+/// The families of coefficients: mixed and now and then out of range, anywhere in the range, at its two ends, a few among zeros, and blocks of which a
+/// value on the way comes to an end of its range.
+const FAMILIES: [&str; 5] = ["mixed", "anywhere", "two ends", "a few", "at an end"];
+
+/// Coefficients of one of the families. Of the first four every second block is brought into the range, which most would leave on the way.
 fn coefficients(random: &mut Random, family: usize, out: &mut [i32]) {
     match family {
         0 => numbers(random, out),
         1 => out.iter_mut().for_each(|v| *v = anywhere(random)),
         2 => out.iter_mut().for_each(|v| *v = random.pick(&[rules::LOW, rules::HIGH])),
-        _ => {
+        3 => {
             out.fill(0);
             for _ in 0..1 + random.below(6) {
                 let v = anywhere(random);
                 out[random.below(out.len())] = random.pick(&[rules::LOW, rules::HIGH, v, v / 64]);
             }
         }
+        _ => return at_an_end(random, out),
+    }
+    if random.one_in(2) {
+        bring_in(out);
     }
 }
 
@@ -531,14 +596,59 @@ fn coefficients(random: &mut Random, family: usize, out: &mut [i32]) {
 fn furthest<const B: usize>(sample: usize, rust: impl Fn(&[i32; B]) -> Result<[i32; B], u32>) -> [[i32; B]; 2] {
     let raises: [bool; B] = std::array::from_fn(|place| {
         let mut alone = [0; B];
-        alone[place] = rules::HIGH;
+        alone[place] = 10_000;
         rust(&alone).expect("a number in range")[sample] > 0
     });
     [true, false].map(|wanted| raises.map(|raises| if raises == wanted { rules::HIGH } else { rules::LOW }))
 }
 
+/// How often the furthest value of a letter stood at an end of its range, with all values in range, and how often it stood one past it, with the values of
+/// all other letters in range. An end is the lower one or the upper one.
+#[derive(Default)]
+struct Ends(BTreeMap<(char, bool), [u64; 2]>);
+
+impl Ends {
+    fn add(&mut self, deq: &[i32]) {
+        if rules::in_range(deq).is_err() {
+            return;
+        }
+        let spans = halfway::spans(deq);
+        let out = spans.iter().filter(|span| !span.fits()).count();
+        for span in spans {
+            for (upper, past) in [(false, rules::LOW - span.least), (true, span.greatest - span.high)] {
+                if past == out as i32 && out <= 1 {
+                    self.0.entry((span.letter, upper)).or_default()[out] += 1;
+                }
+            }
+        }
+    }
+
+    /// Every end that these letters have was met on both sides, at least once in a thousand cases.
+    fn judge(&self, letters: &str, cases: usize, routine: &mut Routine) {
+        for letter in letters.chars() {
+            for upper in [false, true] {
+                let [at, past] = self.0.get(&(letter, upper)).copied().unwrap_or_default();
+                println!("  {letter} at its {} end {at:>6} times, past it alone {past:>6} times", if upper { "upper" } else { "lower" });
+                if at.min(past) * 1000 < cases as u64 {
+                    routine.lacks += &format!(", {letter} SELDOM AT AN END");
+                }
+            }
+        }
+    }
+}
+
+/// The letters of a block that can leave the range while those of all others stay in it. The others follow from them: each value of theirs is half the sum
+/// or half the difference of two of the next step.
+fn deciding(block: usize) -> &'static str {
+    if block == 16 {
+        "fh"
+    } else {
+        "eghm"
+    }
+}
+
 fn inverse<const B: usize>(report: &mut Report, name: &'static str, export: Inverse, rust: impl Fn(&[i32; B]) -> Result<[i32; B], u32>) {
-    let rounds = report.many(4_000_000);
+    let rounds = report.many(5_000_000);
     let mut routine = report.routine(name, &[0, 2, 8]);
     let mut random = Random::new(4);
     let mut deq = [0; B];
@@ -548,7 +658,10 @@ fn inverse<const B: usize>(report: &mut Report, name: &'static str, export: Inve
         let answer = unsafe { export(deq.as_ptr(), deq.len(), out.as_mut_ptr(), out.len()) };
         (answer, buffer)
     };
-    let one = |routine: &mut Routine, deq: &[i32; B]| routine.told(call(deq, B), left_behind(B, rust(deq)), || format!("{deq:?}"));
+    let one = |routine: &mut Routine, deq: &[i32; B]| {
+        assert_eq!(rules::transformable(deq).is_ok(), halfway::in_range(deq), "the quick test and the plain one: {deq:?}");
+        routine.told(call(deq, B), left_behind(B, rust(deq)), || format!("{deq:?}"));
+    };
     // A lone coefficient at each place, through the whole range and past its ends.
     for place in 0..B {
         for v in (-32800..32800).step_by(if rounds < 100_000 { 97 } else { 1 }) {
@@ -557,26 +670,45 @@ fn inverse<const B: usize>(report: &mut Report, name: &'static str, export: Inve
             one(&mut routine, &deq);
         }
     }
-    // The limits on both sides at each place of blocks at random, and the blocks whose residuals are the largest.
+    // The limits on both sides at each place of blocks at random, anywhere in the range and next to 0.
     for place in 0..B {
         for v in LIMITS {
             coefficients(&mut random, 1, &mut deq);
             deq[place] = v;
             one(&mut routine, &deq);
-        }
-        for deq in furthest(place, &rust) {
+            deq = std::array::from_fn(|_| random.below(5) as i32 - 2);
+            deq[place] = v;
             one(&mut routine, &deq);
         }
-    }
-    for round in 0..rounds {
-        coefficients(&mut random, round % 4, &mut deq);
-        one(&mut routine, &deq);
+        // The blocks that would have the largest residuals, and smaller ones with the same signs on both sides of what is taken.
+        for mut deq in furthest(place, &rust) {
+            one(&mut routine, &deq);
+            bring_in(&mut deq);
+            for more in -3..=3 {
+                one(&mut routine, &deq.map(|v| v + more * v.signum()));
+            }
+        }
     }
     // Lists of other lengths: they are refused before the numbers are looked at.
     let any = 2 * B + 8;
     for (n, out) in (0..any).flat_map(|n| (0..any).map(move |out| (n, out))).filter(|&p| p != (B, B)) {
         for v in [0, 32768] {
             routine.told(call(&vec![v; n], out), (2, Guarded::filled(out)), || format!("lengths {n}, {out}, numbers {v}"));
+        }
+    }
+    drop(routine);
+    for (family, title) in FAMILIES.iter().enumerate() {
+        let mut routine = report.family(name, title);
+        let (mut ends, cases) = (Ends::default(), rounds / FAMILIES.len());
+        for _ in 0..cases {
+            coefficients(&mut random, family, &mut deq);
+            one(&mut routine, &deq);
+            if family == 4 {
+                ends.add(&deq);
+            }
+        }
+        if family == 4 {
+            ends.judge(deciding(B), cases, &mut routine);
         }
     }
 }
@@ -674,7 +806,7 @@ fn resize<T: Copy + From<u8>>(list: &mut Guarded<T>, random: &mut Random) {
     list.resize(random.pick(&lengths_of(right)));
 }
 
-const BENDS: [Bend; 24] = [
+const BENDS: [Bend; 27] = [
     |c, _| c.memory.w = 0,
     |c, _| c.memory.h = 0,
     |c, random| c.memory.w = random.pick(&[121, u32::MAX, c.memory.w + 1]),
@@ -738,6 +870,20 @@ const BENDS: [Bend; 24] = [
     |c, random| c.record.chroma_mode = random.pick(&[1, 2, 3, 3, 4, 255]),
     |c, random| c.record.numbers[random.below(384)] = random.pick(&LIMITS),
     |c, random| c.record.numbers[random.pick(&[0, 255, 256, 319, 320, 383])] = random.pick(&[32768, -32769, i32::MIN, i32::MAX]),
+    // One block comes to an end of the range on the way, or is alone at its first place there.
+    |c, random| {
+        let plane = random.below(3);
+        let block = c.record.block_of(random, plane);
+        at_an_end(random, block);
+    },
+    |c, random| {
+        let plane = random.below(3);
+        let block = c.record.block_of(random, plane);
+        block.fill(0);
+        block[0] = random.pick(&LIMITS);
+    },
+    // Numbers in range, whatever becomes of their blocks.
+    |c, random| random.numbers(&mut c.record.numbers),
 ];
 
 fn bend_stride(c: &mut Call, random: &mut Random, near: fn(usize) -> [usize; 3]) {
@@ -779,6 +925,23 @@ fn rebuild(report: &mut Report) {
     }
 }
 
+/// Calls that are good but for one block, of luma, Cb or Cr, that comes to an end of the range on the way.
+fn rebuild_at_an_end(report: &mut Report) {
+    let rounds = report.many(30_000);
+    let mut random = Random::new(13);
+    for (kind, plane) in (0..3).flat_map(|kind| (0..3).map(move |plane| (kind, plane))) {
+        let mut routine = report.family("rebuild", &format!("at an end, {} of kind {kind}", ["luma", "Cb", "Cr"][plane]));
+        for _ in 0..rounds {
+            let mut call = Call::new(&mut random, (2, 2), 0, kind);
+            let a = (2 * call.y + call.x) as usize;
+            call.memory.done.inner().iter_mut().enumerate().for_each(|(at, d)| *d = (at != a) as u8);
+            let block = call.record.block_of(&mut random, plane);
+            at_an_end(&mut random, block);
+            call.compare(&mut routine);
+        }
+    }
+}
+
 /// Whole pictures, offered in a shuffled order with bad calls between, against the Rust in raster order.
 fn pictures(report: &mut Report) {
     let rounds = report.many(3000) / 10;
@@ -812,6 +975,11 @@ fn pictures(report: &mut Report) {
                     let kept = port.clone();
                     let bad = port.port(x, y, 3 + random.byte() % 8, &r.modes, r.chroma_mode, &r.numbers);
                     steady &= (bad == 5 || bad == 6) && port == kept;
+                    let (mut past, plane) = (r.clone(), random.below(3));
+                    let block = past.block_of(&mut random, plane);
+                    past_an_end(&mut random, block);
+                    let bad = port.port(x, y, past.kind, &past.modes, past.chroma_mode, &past.numbers);
+                    steady &= (bad == 5 || bad == 8) && port == kept;
                 }
                 let answer = port.port(x, y, r.kind, &r.modes, r.chroma_mode, &r.numbers);
                 steady &= answer == 0 || answer == 5;
@@ -845,9 +1013,9 @@ fn main() {
     from_plane(&mut report, "chroma8x8_plane_pred", 8, jiwarbend_chroma8x8_plane_pred, rules::chroma8x8_plane_pred);
     inverse(&mut report, "inverse_4x4", jiwarbend_inverse_4x4, rules::inverse_4x4);
     inverse(&mut report, "inverse_8x8", jiwarbend_inverse_8x8, rules::inverse_8x8);
-    sums(&mut report, "reconstruct_4x4", jiwarbend_reconstruct_4x4, rules::reconstruct_4x4);
-    sums(&mut report, "add_residual_4x4", jiwarbend_add_residual_4x4, rules::add_residual_4x4);
-    sums(&mut report, "add_residual_8x8", jiwarbend_add_residual_8x8, rules::add_residual_8x8);
+    sums(&mut report, "reconstruct_4x4", First::Coefficients, jiwarbend_reconstruct_4x4, rules::reconstruct_4x4);
+    sums(&mut report, "add_residual_4x4", First::Residuals, jiwarbend_add_residual_4x4, rules::add_residual_4x4);
+    sums(&mut report, "add_residual_8x8", First::Residuals, jiwarbend_add_residual_8x8, rules::add_residual_8x8);
     type Into = unsafe extern "C" fn(*const i32, usize, *const u8, usize, usize, usize, *mut u8, usize, usize, usize) -> u32;
     let list = |export: Into| {
         move |first: &[i32], pred: &[u8], from: Square, rec: &mut [u8], to: Square| unsafe {
@@ -855,10 +1023,12 @@ fn main() {
             export(first.as_ptr(), first.len(), p, pred.len(), from.offset, from.stride, r, rec.len(), to.offset, to.stride)
         }
     };
-    into_plane(&mut report, "reconstruct_4x4_into", list(jiwarbend_reconstruct_4x4_into), rules::reconstruct_4x4_into, true);
+    let port = list(jiwarbend_reconstruct_4x4_into);
+    into_plane(&mut report, "reconstruct_4x4_into", First::Coefficients, port, rules::reconstruct_4x4_into, true);
     into_plane(
         &mut report,
         "reconstruct_4x4_dc_into",
+        First::Residuals,
         |first, pred, from, rec, to| unsafe {
             let (p, r) = (pred.as_ptr(), rec.as_mut_ptr());
             jiwarbend_reconstruct_4x4_dc_into(first[0], p, pred.len(), from.offset, from.stride, r, rec.len(), to.offset, to.stride)
@@ -866,9 +1036,11 @@ fn main() {
         |first, pred, from, rec, to| rules::reconstruct_4x4_dc_into(first[0], pred, from, rec, to),
         false,
     );
-    into_plane(&mut report, "add_residual_4x4_into", list(jiwarbend_add_residual_4x4_into), rules::add_residual_4x4_into, true);
+    let port = list(jiwarbend_add_residual_4x4_into);
+    into_plane(&mut report, "add_residual_4x4_into", First::Residuals, port, rules::add_residual_4x4_into, true);
     start(&mut report);
     rebuild(&mut report);
+    rebuild_at_an_end(&mut report);
     pictures(&mut report);
     println!("\nall calls, by answer:");
     for (answer, times) in report.seen.iter().enumerate() {

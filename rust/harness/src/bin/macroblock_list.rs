@@ -1,11 +1,12 @@
 //! Writes the fixed list of macroblocks that the Rust's routines rebuilt to standard output: for each group, in the order of
 //! crates/macroblocks/src/main.rt, the number of its cases in two bytes, and the cases as the program there reads them. Refusal 2, which
-//! the Rust does not know, is given here; every other answer and every byte after a call is the driver's over those routines and the 8x8
-//! inverse beside them. The last group is wrong on purpose, so that the program shows that it sees a difference.
+//! the Rust does not know, is given here; every other answer and every byte after a call is the driver's over those routines, and the 8x8
+//! inverse and the range of both inverses beside them. The last group is wrong on purpose, so that the program shows that it sees a difference.
+use harness::ends::bring_in;
 use harness::list::{put, List};
 use harness::{good_record, Random, Record};
 use oracle::driver::{self, Near, Plane};
-use oracle::rules;
+use oracle::{halfway, rules};
 
 /// The side of a macroblock's square in luma, Cb and Cr.
 const SIDES: [usize; 3] = [16, 8, 8];
@@ -36,7 +37,10 @@ impl Case {
     fn new(random: &mut Random, (x, y, marks): (usize, usize, u8), kind: u8) -> Case {
         let mut record = good_record(random, kind, near(marks));
         if random.one_in(2) {
-            record.blocks_mut().for_each(|block| random.numbers(block));
+            record.blocks_mut().for_each(|block| {
+                random.numbers(block);
+                bring_in(block);
+            });
         }
         let strides = [48 + random.below(5), 24 + random.below(4), 24 + random.below(4)];
         let mut case = Case { x, y, marks, record, strides, planes: Default::default() };
@@ -113,6 +117,15 @@ impl Case {
             }
         }
         many
+    }
+
+    /// Puts these coefficients, and zeros beside them, into the block that has this one of the record's 24 or 12 blocks, which they take out of range
+    /// on the way: their letters say where.
+    fn overflow(&mut self, block: usize, (leaves, coefficients): Overflow) {
+        let block = self.record.blocks_mut().nth(block).unwrap();
+        block.fill(0);
+        coefficients.iter().for_each(|&(place, v)| block[place] = v);
+        assert!(rules::in_range(block).is_ok() && halfway::leaves(block) == leaves);
     }
 
     /// Breaks the rules after the one of this answer too.
@@ -205,8 +218,29 @@ const UNKNOWN: [Spoilt; 12] = [
     (0, 1, C, 1, |case| case.record.chroma_mode = 255),
 ];
 
-/// A mode is not permitted where it stands.
-const FORBIDDEN: [Spoilt; 15] = [
+/// The letters of the values that leave the range, and the coefficients of a block, by place, that have them do so.
+type Overflow = (&'static str, &'static [(usize, i32)]);
+
+/// Blocks that leave the range in the rows, in the columns, and with nothing but what the columns end with.
+const ROWS_4X4: Overflow = ("f", &[(4, 20_000), (5, 18_000), (12, -12_000)]);
+const COLUMNS_4X4: Overflow = ("gh", &[(0, -20_000), (8, -18_000)]);
+const LAST_4X4: Overflow = ("h", &[(0, 20_000), (4, 12_750)]);
+const FIRST_STEP_8X8: Overflow = ("e", &[(1, 22_000), (7, -4_000)]);
+const ROWS_8X8: Overflow = ("efg", &[(16, -20_000), (20, -18_000), (48, 12_000)]);
+const COLUMNS_8X8: Overflow = ("h", &[(8, 22_000), (56, -4_000)]);
+const LAST_8X8: Overflow = ("m", &[(0, 20_000), (8, 8_500)]);
+
+/// The number of the first block of Cb and of Cr: luma has four blocks in kind 1 and sixteen in the others.
+fn chroma(kind: u8) -> [usize; 2] {
+    if kind == 1 {
+        [4, 8]
+    } else {
+        [16, 20]
+    }
+}
+
+/// A mode is not permitted where it stands. In the last ones a block is out of range too.
+const FORBIDDEN: [Spoilt; 18] = [
     (0, 0, 0, 0, |case| case.record.modes[0] = 0),
     (1, 0, A, 0, |case| case.record.modes[5] = 3),
     (1, 1, A | C | D, 0, |case| case.record.modes[4] = 7),
@@ -222,6 +256,18 @@ const FORBIDDEN: [Spoilt; 15] = [
     (1, 1, A | B | C, 2, |case| case.record.modes[0] = 3),
     (0, 1, B, 0, |case| case.record.chroma_mode = 1),
     (2, 1, A | B, 1, |case| case.record.chroma_mode = 3),
+    (1, 1, A | B | C, 0, |case| {
+        case.record.modes[0] = 4;
+        case.overflow(7, ROWS_4X4);
+    }),
+    (0, 1, B | C, 1, |case| {
+        case.record.modes[0] = 8;
+        case.overflow(3, COLUMNS_8X8);
+    }),
+    (1, 0, A, 2, |case| {
+        case.record.chroma_mode = 2;
+        case.overflow(chroma(2)[1], LAST_4X4);
+    }),
 ];
 
 /// A number is out of range.
@@ -238,6 +284,26 @@ const TOO_FAR: [Spoilt; 12] = [
     (1, 1, A | B, 0, |case| case.record.numbers[383] = -32769),
     (2, 1, D, 1, |case| case.record.numbers[300] = 8_388_607),
     (0, 0, 0, 2, |case| case.record.numbers[0] = -8_388_608),
+];
+
+/// A block leaves the range on the way: of luma in each kind, of Cb and of Cr.
+const HALFWAY: [Spoilt; 16] = [
+    (0, 0, 0, 0, |case| case.overflow(0, ROWS_4X4)),
+    (2, 1, A | B | D, 0, |case| case.overflow(6, COLUMNS_4X4)),
+    (1, 1, A | B | C | D, 0, |case| case.overflow(15, LAST_4X4)),
+    (1, 0, A, 1, |case| case.overflow(0, FIRST_STEP_8X8)),
+    (2, 1, B, 1, |case| case.overflow(1, ROWS_8X8)),
+    (0, 1, B | C, 1, |case| case.overflow(3, COLUMNS_8X8)),
+    (1, 1, A | B | C | D, 1, |case| case.overflow(2, LAST_8X8)),
+    (0, 0, 0, 2, |case| case.overflow(10, ROWS_4X4)),
+    (1, 1, A | D, 2, |case| case.overflow(0, COLUMNS_4X4)),
+    (2, 0, A, 2, |case| case.overflow(15, LAST_4X4)),
+    (2, 1, A | B, 0, |case| case.overflow(chroma(0)[0], ROWS_4X4)),
+    (1, 1, B | C, 1, |case| case.overflow(chroma(1)[0] + 3, COLUMNS_4X4)),
+    (0, 1, 0, 2, |case| case.overflow(chroma(2)[0] + 1, LAST_4X4)),
+    (1, 0, 0, 0, |case| case.overflow(chroma(0)[1] + 2, LAST_4X4)),
+    (1, 1, A | B | D, 1, |case| case.overflow(chroma(1)[1], ROWS_4X4)),
+    (0, 1, B, 2, |case| case.overflow(chroma(2)[1] + 3, COLUMNS_4X4)),
 ];
 
 /// The refused calls of one answer; every third breaks later rules too.
@@ -270,7 +336,7 @@ fn main() {
     refused(&mut list, &mut random, 2, &NO_ROOM);
     refused(&mut list, &mut random, 6, &UNKNOWN);
     refused(&mut list, &mut random, 7, &FORBIDDEN);
-    refused(&mut list, &mut random, 8, &TOO_FAR);
+    refused(&mut list, &mut random, 8, &[&TOO_FAR[..], &HALFWAY].concat());
     wrong(&mut list, &mut random);
     list.print();
 }

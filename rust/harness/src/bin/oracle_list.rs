@@ -1,6 +1,7 @@
 //! Writes the fixed list of the Rust's answers to standard output: for each routine, in the order of crates/oracle_list/src/main.rt, the
 //! number of its cases in two bytes, and the cases as the program there reads them. A refused case has the rules' answer and leaves zeros,
 //! or the buffer as it was. The last two parts are wrong on purpose, so that the program shows that it sees a difference.
+use harness::ends::{at_an_end, bring_in, past_an_end};
 use harness::list::{put, List};
 use harness::Random;
 use oracle::predict;
@@ -41,8 +42,35 @@ fn numbers<const N: usize>(random: &mut Random) -> [i32; N] {
     out
 }
 
+/// Such numbers as the coefficients of a block, as they are or brought into the range, and blocks at an end of it and past one.
+fn coefficients(random: &mut Random) -> [i32; 16] {
+    let mut out = numbers(random);
+    match random.below(4) {
+        0 => (),
+        1 => bring_in(&mut out),
+        2 => at_an_end(random, &mut out),
+        _ => past_an_end(random, &mut out),
+    }
+    out
+}
+
 fn answer<T>(result: &Result<T, u32>) -> u8 {
     result.as_ref().err().map_or(0, |&n| n as u8)
+}
+
+/// How often each answer was given in a part. Accepted cases and those that are refused for their range must not be rare.
+#[derive(Default)]
+struct Seen([usize; 9]);
+
+impl Seen {
+    fn add(&mut self, answer: u8) -> u8 {
+        self.0[answer as usize] += 1;
+        answer
+    }
+
+    fn both_often(&self) {
+        assert!(self.0[0].min(self.0[8]) >= 25, "answers {:?}", self.0);
+    }
 }
 
 fn predictor<const T: usize, const L: usize, const B: usize>(
@@ -91,26 +119,36 @@ fn from_plane<const B: usize, const P: usize>(
     });
 }
 
-fn sums<const B: usize>(list: &mut List, random: &mut Random, cases: usize, rust: impl Fn(&[i32; B], &[i32; B]) -> Result<[u8; B], u32>) {
+fn sums<const B: usize>(
+    list: &mut List,
+    random: &mut Random,
+    cases: usize,
+    draw: impl Fn(&mut Random) -> [i32; B],
+    rust: impl Fn(&[i32; B], &[i32; B]) -> Result<[u8; B], u32>,
+) -> Seen {
+    let mut seen = Seen::default();
     list.part(cases, |_, out| {
-        let first = numbers::<B>(random);
+        let first = draw(random);
         let pred = if random.one_in(4) { numbers::<B>(random) } else { std::array::from_fn(|_| random.byte() as i32) };
         let result = rust(&first, &pred);
-        out.push(answer(&result));
+        out.push(seen.add(answer(&result)));
         put(out, &first);
         put(out, &pred);
         out.extend(result.unwrap_or([0; B]));
     });
+    seen
 }
 
 fn into_plane<const K: usize>(
     list: &mut List,
     random: &mut Random,
     cases: usize,
+    draw: impl Fn(&mut Random) -> [i32; K],
     rust: impl Fn(&[i32; K], &[u8], Square, &mut [u8], Square) -> Result<(), u32>,
-) {
+) -> Seen {
+    let mut seen = Seen::default();
     list.part(cases, |_, out| {
-        let first = numbers::<K>(random);
+        let first = draw(random);
         let (mut pred, mut rec) = ([0; 40], [0; 60]);
         random.samples(&mut pred);
         random.samples(&mut rec);
@@ -118,12 +156,13 @@ fn into_plane<const K: usize>(
         let to = Square { offset: random.below(10), stride: 3 + random.below(16) };
         let before = rec;
         let result = rust(&first, &pred, from, &mut rec, to);
-        out.extend([answer(&result), from.offset as u8, from.stride as u8, to.offset as u8, to.stride as u8]);
+        out.extend([seen.add(answer(&result)), from.offset as u8, from.stride as u8, to.offset as u8, to.stride as u8]);
         put(out, &first);
         out.extend(pred);
         out.extend(before);
         out.extend(rec);
     });
+    seen
 }
 
 fn main() {
@@ -153,19 +192,22 @@ fn main() {
     predictor(&mut list, random, 250, 3, rules::chroma8x8_pred);
     from_plane::<256, 300>(&mut list, random, 60, 16, rules::i16x16_luma_pred);
     from_plane::<64, 100>(&mut list, random, 120, 8, rules::chroma8x8_plane_pred);
+    let mut seen = Seen::default();
     list.part(300, |_, out| {
-        let deq = numbers::<16>(random);
+        let deq = coefficients(random);
         let result = rules::inverse_4x4(&deq);
-        out.push(answer(&result));
+        out.push(seen.add(answer(&result)));
         put(out, &deq);
         put(out, &result.unwrap_or([0; 16]));
     });
-    sums(&mut list, random, 200, rules::reconstruct_4x4);
-    sums(&mut list, random, 200, rules::add_residual_4x4);
-    sums(&mut list, random, 60, rules::add_residual_8x8);
-    into_plane::<16>(&mut list, random, 200, rules::reconstruct_4x4_into);
-    into_plane::<1>(&mut list, random, 200, |first, pred, from, rec, to| rules::reconstruct_4x4_dc_into(first[0], pred, from, rec, to));
-    into_plane::<16>(&mut list, random, 200, rules::add_residual_4x4_into);
+    seen.both_often();
+    sums(&mut list, random, 200, coefficients, rules::reconstruct_4x4).both_often();
+    sums(&mut list, random, 200, numbers, rules::add_residual_4x4);
+    sums(&mut list, random, 60, numbers, rules::add_residual_8x8);
+    into_plane(&mut list, random, 200, coefficients, rules::reconstruct_4x4_into).both_often();
+    let flat = |first: &[i32; 1], pred: &[u8], from, rec: &mut [u8], to| rules::reconstruct_4x4_dc_into(first[0], pred, from, rec, to);
+    into_plane(&mut list, random, 200, numbers, flat);
+    into_plane(&mut list, random, 200, numbers, rules::add_residual_4x4_into);
     wrong_byte(&mut list);
     wrong_number(&mut list);
     list.print();

@@ -4,9 +4,9 @@ use mathlib.Core.List.{List, [], _∷_}
 use Prim.Native.Nat.{ℕ, _+_, _*_}
 use native.Mathlib.Nat.{zero-add}
 use lib.IntN.{ℤ}
-use Rattle.laws.specs.Range.{AllWithin, at}
-use Rattle.transform_8x8.specs.Inverse8x8.{oneDimensional}
-use Rattle.transform_8x8.proofs.Eights.{eight, word, words-within, all-words}
+use Rattle.laws.specs.Range.{Within, AllWithin, at}
+use Rattle.transform_8x8.specs.Inverse8x8.{firstStep, oneDimensional}
+use Rattle.transform_8x8.proofs.Eights.{eight, word, words-within, first-words, all-words}
 use borrow.Author.Needs.{needs}
 use Rattle.transform_8x8.proofs.passes.column.Statement.{statement}
 use Rattle.transform_8x8.proofs.passes.column.Tie as tie
@@ -30,8 +30,10 @@ one-dimensional-requires c κs =
 returns : tie.Need-returns
 returns c =
     let u = c .before .before .before .before .before .before .before .before .before in
-    c .one-dimensional .ensures ∙ ap (λ l. oneDimensional (at l)) (reads u)
-    ∙ all-words 241664 (numbers u) tt (λ i. u .pre .1 .each (8 * i + u .args .j))
+    let w : (i : ℕ) → Within 241664 (numbers u i) = λ i. u .pre .1 .each (8 * i + u .args .j) in (
+      c .one-dimensional .ensures .0 ∙ ap (λ l. firstStep (at l)) (reads u) ∙ first-words 241664 (numbers u) tt w,
+      c .one-dimensional .ensures .1 ∙ ap (λ l. oneDimensional (at l)) (reads u) ∙ all-words 241664 (numbers u) tt w,
+    )
 
 pub column-spec : {M : Type 1} → statement M
 column-spec =

@@ -7,8 +7,8 @@ use lib.IntN.{ℤ}
 use Rattle.laws.specs.Range.{Within, at}
 use Rattle.laws.proofs.Ints.{within-back, within-more}
 use Rattle.residual.proofs.InRange.{all-within}
-use Rattle.transform_8x8.specs.Inverse8x8.{oneDimensional, eRow, fRow, gRow}
-use Rattle.transform_8x8.proofs.Eights.{eight, eight-within, word, all-words}
+use Rattle.transform_8x8.specs.Inverse8x8.{firstStep, oneDimensional, eRow, fRow, gRow}
+use Rattle.transform_8x8.proofs.Eights.{eight, eight-within, word, first-words, all-words}
 use borrow.Author.Needs.{needs}
 use Rattle.transform_8x8.proofs.passes.row.Statement.{statement}
 use Rattle.transform_8x8.proofs.passes.row.Tie as tie
@@ -40,7 +40,10 @@ returns : tie.Need-returns
 unfolding eRow fRow gRow
 returns c =
     let u = c .before .before .before .before .before .before .before .before .before in
-    c .one-dimensional .ensures ∙ ap (λ l. oneDimensional (at l)) (reads u) ∙ all-words 241664 (numbers u) tt (λ j. small u (8 * u .args .i + j))
+    let w : (j : ℕ) → Within 241664 (numbers u j) = λ j. small u (8 * u .args .i + j) in (
+      c .one-dimensional .ensures .0 ∙ ap (λ l. firstStep (at l)) (reads u) ∙ first-words 241664 (numbers u) tt w,
+      c .one-dimensional .ensures .1 ∙ ap (λ l. oneDimensional (at l)) (reads u) ∙ all-words 241664 (numbers u) tt w,
+    )
 
 pub row-spec : {M : Type 1} → statement M
 row-spec =

@@ -45,9 +45,11 @@ third-step-requires c κs =
 returns : tie.Need-returns
 returns c =
     let s = c .before .before .before .before .before .before .before .before .before in
-    let f = s .before .before .before .before .before .before .before .before .before in
-    c .third-step .ensures ∙ third-words 936448 (at (s .second-step .result)) tt (after-second s .each)
-    ∙ ap (λ e. thirdStep (at e)) (second-is s ∙ ap (λ e. secondStep (at e)) (first-is f))
+    let f = s .before .before .before .before .before .before .before .before .before in (
+      first-is f,
+      c .third-step .ensures ∙ third-words 936448 (at (s .second-step .result)) tt (after-second s .each)
+          ∙ ap (λ e. thirdStep (at e)) (second-is s ∙ ap (λ e. secondStep (at e)) (first-is f)),
+    )
 
 pub one-dimensional-spec : {M : Type 1} → statement M
 one-dimensional-spec =

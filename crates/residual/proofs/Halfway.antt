@@ -1,0 +1,150 @@
+-- The range of a 4x4 block: what is tested of it tells of every value that the clause names, and each of them then has sixteen bits. Assumes nothing.
+use mathlib.Core.Path.{_≡_, refl, ap, ap₂, _∙_}
+use mathlib.Core.Bool.{Bool, true, _&&_}
+use mathlib.Core.List.{List}
+use Prim.Native.Nat.{ℕ, zero, suc, _+_, _*_, _/_, _%_, _<_}
+use native.Mathlib.Omega.{arith}
+use lib.Dec.{lit<}
+use lib.IntN.{ℤ}
+use lib.ListN.{length}
+use Rattle.laws.specs.Range.{at}
+use Rattle.laws.specs.Table.{allBelow}
+use Rattle.laws.proofs.Blockwise.{TestOfBlock}
+use Rattle.laws.proofs.Ints.{within-table}
+use Rattle.laws.proofs.Tests.{true-T, T-true, same-test, and-left, and-right, and-both, and-of, and-assoc, all-at, all-of, all-same, all-four}
+use Rattle.residual.specs.Extents.{allOfFour}
+use Rattle.residual.specs.Fits4x4.{Fits4x4}
+use Rattle.residual.specs.Inverse.{firstStep, secondStep, rounded, eRow, fRow, gColumn, hColumn, inverse4x4, inRange4x4}
+use Rattle.residual.specs.Numbers.{inRange, allInRange, lastInRange}
+use Rattle.residual.proofs.InRange.{in-range-within, in-range-short, halves, last-in-range, last-rounds}
+use Rattle.residual.proofs.InRange as numbers
+use Rattle.residual.proofs.Transform.{rounded-small, e-same, f-same, g-same, h-same}
+
+-- ---- the values of the second step tell of those of the first
+step-told : (e : ℕ → ℤ) → ((n : ℕ) → n < 4 → inRange (at (secondStep e) n) ≡ true) → (n : ℕ) → n < 4 → inRange (e n) ≡ true
+unfolding secondStep
+step-told e w zero h = halves (e 0) (e 3) (w 0 (lit< tt)) (w 3 (lit< tt)) .0
+step-told e w (suc zero) h = halves (e 1) (e 2) (w 1 (lit< tt)) (w 2 (lit< tt)) .0
+step-told e w (suc (suc zero)) h = halves (e 1) (e 2) (w 1 (lit< tt)) (w 2 (lit< tt)) .1
+step-told e w (suc (suc (suc zero))) h = halves (e 0) (e 3) (w 0 (lit< tt)) (w 3 (lit< tt)) .1
+step-told e w (suc (suc (suc (suc n)))) h = absurd (omega arith)
+
+module _ (d : List ℤ) where
+  -- what is tested: the rows and the columns, each after its second step
+  abbrev pub rows : Bool
+  rows = allBelow 4 (λ i. allOfFour inRange (fRow d i))
+
+  abbrev pub columns : Bool
+  columns = allBelow 4 (λ j. allOfFour lastInRange (hColumn d j))
+
+  module _ (r : rows ≡ true) (c : columns ≡ true) where
+    f-in : (i j : ℕ) → i < 4 → j < 4 → inRange (at (fRow d i) j) ≡ true
+    f-in i j hi hj = all-at 4 _ (all-at 4 _ r i hi) j hj
+
+    e-in : (i j : ℕ) → i < 4 → j < 4 → inRange (at (eRow d i) j) ≡ true
+    unfolding fRow
+    e-in i j hi hj = step-told (at (eRow d i)) (λ n h. f-in i n hi h) j hj
+
+    h-in : (i j : ℕ) → i < 4 → j < 4 → lastInRange (at (hColumn d j) i) ≡ true
+    h-in i j hi hj = all-at 4 _ (all-at 4 _ c j hj) i hi
+
+    g-in : (i j : ℕ) → i < 4 → j < 4 → inRange (at (gColumn d j) i) ≡ true
+    unfolding hColumn
+    g-in i j hi hj = step-told (at (gColumn d j)) (λ n h. last-in-range _ (h-in n j h hj)) i hi
+
+  -- what the range says, value by value
+  pub record InRange : Type 0 where
+    pub d-in : (k : ℕ) → k < 16 → inRange (at d k) ≡ true
+    pub e-in : (i j : ℕ) → i < 4 → j < 4 → inRange (at (eRow d i) j) ≡ true
+    pub f-in : (i j : ℕ) → i < 4 → j < 4 → inRange (at (fRow d i) j) ≡ true
+    pub g-in : (i j : ℕ) → i < 4 → j < 4 → inRange (at (gColumn d j) i) ≡ true
+    pub h-in : (i j : ℕ) → i < 4 → j < 4 → lastInRange (at (hColumn d j) i) ≡ true
+
+  abbrev coefficients : Bool
+  coefficients = allBelow 16 (λ k. inRange (at d k))
+
+  abbrev inRows : Bool
+  inRows = allBelow 4 (λ i. allBelow 4 (λ j. inRange (at (eRow d i) j) && inRange (at (fRow d i) j)))
+
+  abbrev inColumns : Bool
+  inColumns = allBelow 4 (λ j. allBelow 4 (λ i. inRange (at (gColumn d j) i) && lastInRange (at (hColumn d j) i)))
+
+  in-row : inRows ≡ true → (i j : ℕ) → i < 4 → j < 4 → (inRange (at (eRow d i) j) ≡ true) × (inRange (at (fRow d i) j) ≡ true)
+  in-row r i j hi hj = and-both (inRange (at (eRow d i) j)) (inRange (at (fRow d i) j)) (all-at 4 _ (all-at 4 _ r i hi) j hj)
+
+  in-column : inColumns ≡ true → (i j : ℕ) → i < 4 → j < 4 → (inRange (at (gColumn d j) i) ≡ true) × (lastInRange (at (hColumn d j) i) ≡ true)
+  in-column c i j hi hj = and-both (inRange (at (gColumn d j) i)) (lastInRange (at (hColumn d j) i)) (all-at 4 _ (all-at 4 _ c j hj) i hi)
+
+  pub says : inRange4x4 d ≡ true → InRange
+  unfolding inRange4x4
+  says e =
+      let cr = and-left (coefficients && inRows) inColumns e in
+      let r = and-right coefficients inRows cr in
+      let c = and-right (coefficients && inRows) inColumns e in
+      record {
+        d-in = all-at 16 _ (and-left coefficients inRows cr);
+        e-in = λ i j hi hj. in-row r i j hi hj .0;
+        f-in = λ i j hi hj. in-row r i j hi hj .1;
+        g-in = λ i j hi hj. in-column c i j hi hj .0;
+        h-in = λ i j hi hj. in-column c i j hi hj .1;
+      }
+
+  -- the other way
+  pub said : InRange → inRange4x4 d ≡ true
+  unfolding inRange4x4
+  said s =
+      and-of (and-of (all-of 16 _ (s .d-in)) (all-of 4 _ (λ i hi. all-of 4 _ (λ j hj. and-of (s .e-in i j hi hj) (s .f-in i j hi hj)))))
+      (all-of 4 _ (λ j hj. all-of 4 _ (λ i hi. and-of (s .g-in i j hi hj) (s .h-in i j hi hj))))
+
+  -- of coefficients in range, what is tested tells all
+  pub told : allInRange d ≡ true → rows && columns ≡ inRange4x4 d
+  told ok =
+      same-test (rows && columns) (inRange4x4 d)
+      (λ t.
+      let e = T-true (rows && columns) t in
+      let r = and-left rows columns e in
+      let c = and-right rows columns e in
+      true-T (inRange4x4 d) (said (record { d-in = λ k _. numbers.all-at d k ok; e-in = e-in r c; f-in = f-in r c; g-in = g-in r c; h-in = h-in r c })))
+      (λ t.
+      let s = says (T-true (inRange4x4 d) t) in
+      true-T (rows && columns) (and-of (all-of 4 _ (λ i hi. all-of 4 _ (λ j hj. s .f-in i j hi hj))) (all-of 4 _ (λ j hj. all-of 4 _ (λ i hi. s .h-in i j hi hj)))))
+
+  -- as the extents of the rows and of the columns tell it, one after the other
+  pub told-after : (t : Bool) (f0 f1 f2 f3 h0 h1 h2 h3 : List ℤ) → allInRange d ≡ true → f0 ≡ fRow d 0 → f1 ≡ fRow d 1 → f2 ≡ fRow d 2 → f3 ≡ fRow d 3
+      → h0 ≡ hColumn d 0 → h1 ≡ hColumn d 1 → h2 ≡ hColumn d 2 → h3 ≡ hColumn d 3
+      → t && allOfFour inRange f0 && allOfFour inRange f1 && allOfFour inRange f2 && allOfFour inRange f3
+      && allOfFour lastInRange h0 && allOfFour lastInRange h1 && allOfFour lastInRange h2 && allOfFour lastInRange h3 ≡ t && inRange4x4 d
+  told-after t f0 f1 f2 f3 h0 h1 h2 h3 ok p0 p1 p2 p3 q0 q1 q2 q3 =
+      rw (p0, p1, p2, p3, q0, q1, q2, q3)
+      (all-four (t && allOfFour inRange (fRow d 0) && allOfFour inRange (fRow d 1) && allOfFour inRange (fRow d 2) && allOfFour inRange (fRow d 3))
+      (λ j. allOfFour lastInRange (hColumn d j))
+      ∙ ap (λ u. u && columns) (all-four t (λ i. allOfFour inRange (fRow d i)))
+      ∙ and-assoc t rows columns ∙ ap (λ u. t && u) (told ok))
+
+  -- a block in range has its numbers in range
+  pub in-numbers : length d ≡ 16 → inRange4x4 d ≡ true → allInRange d ≡ true
+  in-numbers n e = numbers.all-true d (λ k h. says e .d-in k (omega (arith, n)))
+
+  -- ---- sixteen bits
+  pub fits-4x4 : inRange4x4 d ≡ true → Fits4x4 d
+  unfolding inverse4x4
+  fits-4x4 e =
+      let s = says e in
+      record {
+        coefficients = λ k h. in-range-short _ (s .d-in k h);
+        e = λ i j hi hj. in-range-short _ (s .e-in i j hi hj);
+        f = λ i j hi hj. in-range-short _ (s .f-in i j hi hj);
+        g = λ i j hi hj. in-range-short _ (s .g-in i j hi hj);
+        h = λ i j hi hj. in-range-short _ (last-in-range _ (s .h-in i j hi hj));
+        h-32 = λ i j hi hj. in-range-short _ (last-rounds _ (s .h-in i j hi hj));
+        r = within-table 512 16 _ (λ k h. rounded-small 512 _ (in-range-within _ (last-in-range _ (s .h-in (k / 4) (k % 4) (omega arith) (omega arith)))));
+      }
+
+-- ---- the range comes from the first sixteen numbers alone
+pub range-of-block : TestOfBlock 16 inRange4x4
+unfolding inRange4x4
+range-of-block = record {
+  same = λ d d′ e. ap₂ _&&_ (ap₂ _&&_ (all-same 16 _ _ (λ k h. ap inRange (e k h)))
+      (all-same 4 _ _ (λ i hi. all-same 4 _ _ (λ j hj. ap₂ (λ a b. inRange (at a j) && inRange (at b j)) (e-same d d′ e i hi) (f-same d d′ e i hi)))))
+      (all-same 4 _ _ (λ j hj. all-same 4 _ _ (λ i hi. ap₂ (λ a b. inRange (at a i) && lastInRange (at b i)) (g-same d d′ e j) (h-same d d′ e j))));
+}
