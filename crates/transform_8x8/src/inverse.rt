@@ -48,22 +48,10 @@ pub fn inverse_8x8_list(deq: &[i32], out: &mut [i32]) -> u32
         return 2;
     }
     let mut res = [0i16; 64];
-    if !invert_one(deq, &mut res) {
+    if !inverse_8x8_blocks(deq, &mut res).in_range {
         return 8;
     }
     widen_all(&res, out)
-}
-
-// The residuals of 64 coefficients, unless the block is out of range: whether it is in range.
-fn invert_one(d: &[i32], out: &mut [i16]) -> bool
-    requires { ⌜ (length (now d) ≡ 64) × (length (now out) ≡ 64) ⌝ }
-    ensures { λ r. ⌜ r ≡ inRange8x8 (now (d .entry)) ⌝ }
-    ensures { λ r. ⌜ (r ≡ true → now (out .exit) ≡ inverse8x8 (now (d .entry))) ⌝ }
-{
-    if !all_in_range(d) {
-        return false;
-    }
-    invert_all(d, out)
 }
 
 // The residuals of each 64 numbers of a list, at the same places, in sixteen bits.
