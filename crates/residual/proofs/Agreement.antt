@@ -9,7 +9,7 @@ use lib.Dec.{lit<}
 use lib.IntN.{ℤ, pos, _+ℤ_, +ℤ-idr}
 use lib.ListN.{length, getD, replicate, getD-replicate}
 use Rattle.laws.specs.Range.{at}
-use Rattle.laws.specs.Table.{table, blockOf}
+use Rattle.laws.specs.Table.{blockOf}
 use Rattle.laws.proofs.Ints.{within-more}
 use Rattle.laws.proofs.Tables.{getD-table, length-table, table-same, table-const}
 use Rattle.laws.proofs.Tests.{true-T, T-true, same-test, and-of, all-of}

@@ -1,8 +1,8 @@
 -- The range of a 4x4 block: what is tested of it tells of every value that the clause names, and each of them then has sixteen bits. Assumes nothing.
-use mathlib.Core.Path.{_≡_, refl, ap, ap₂, _∙_}
+use mathlib.Core.Path.{_≡_, ap, ap₂, _∙_}
 use mathlib.Core.Bool.{Bool, true, _&&_}
 use mathlib.Core.List.{List}
-use Prim.Native.Nat.{ℕ, zero, suc, _+_, _*_, _/_, _%_, _<_}
+use Prim.Native.Nat.{ℕ, zero, suc, _/_, _%_, _<_}
 use native.Mathlib.Omega.{arith}
 use lib.Dec.{lit<}
 use lib.IntN.{ℤ}
@@ -14,7 +14,7 @@ use Rattle.laws.proofs.Ints.{within-table}
 use Rattle.laws.proofs.Tests.{true-T, T-true, same-test, and-left, and-right, and-both, and-of, and-assoc, all-at, all-of, all-same, all-four}
 use Rattle.residual.specs.Extents.{allOfFour}
 use Rattle.residual.specs.Fits4x4.{Fits4x4}
-use Rattle.residual.specs.Inverse.{firstStep, secondStep, rounded, eRow, fRow, gColumn, hColumn, inverse4x4, inRange4x4}
+use Rattle.residual.specs.Inverse.{secondStep, eRow, fRow, gColumn, hColumn, inverse4x4, inRange4x4}
 use Rattle.residual.specs.Numbers.{inRange, allInRange, lastInRange}
 use Rattle.residual.proofs.InRange.{in-range-within, in-range-short, halves, last-in-range, last-rounds}
 use Rattle.residual.proofs.InRange as numbers

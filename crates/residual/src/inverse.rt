@@ -56,7 +56,7 @@ pub fn inverse_4x4_list(deq: &[i32], out: &mut [i32]) -> u32
     widen_all(&res, out)
 }
 
-// The residuals of sixteen coefficients, unless the block is out of range: whether it is in range.
+// Whether a block of sixteen coefficients is in range; where it is, `out` has its residuals.
 pub(crate) fn invert_one(d: &[i32], out: &mut [i16]) -> bool
     requires { ⌜ (length (now d) ≡ 16) × (length (now out) ≡ 16) ⌝ }
     ensures { λ r. ⌜ r ≡ inRange4x4 (now (d .entry)) ⌝ }
@@ -68,13 +68,14 @@ pub(crate) fn invert_one(d: &[i32], out: &mut [i16]) -> bool
     invert_all(d, out)
 }
 
-// What a call on the blocks of a list says: whether it is refused for its lengths or for a number, and else whether every block is in range.
+// What a call on the blocks of a list says: what it is refused for, lengths or a number, and where it is not whether every block is in range.
 pub struct Blocks {
     pub answer: u32,
     pub in_range: bool,
 }
 
-// The residuals of each sixteen numbers of a list, at the same places. Residuals have sixteen bits, so that nobody need ask for their range again.
+// The residuals of each sixteen numbers of a list, at the same places, for callers that refuse where a block is out of range. Residuals have sixteen bits, so
+// that nobody need ask for their range again.
 pub fn inverse_blocks(list: &[i32], out: &mut [i16]) -> Blocks
     ensures { λ r. ⌜ r .answer ≡ blocksAnswer 16 (now (list .entry)) (length (now (out .entry))) ⌝ }
     ensures { λ r. ⌜ r .«in_range» ≡ written (r .answer) false (allBlocks 16 inRange4x4 (now (list .entry))) ⌝ }
@@ -96,6 +97,7 @@ pub fn inverse_blocks(list: &[i32], out: &mut [i16]) -> Blocks
     }
 }
 
+// Refused, with that answer.
 pub fn refused(answer: u32) -> Blocks
     ensures { λ r. ⌜ (r .answer ≡ answer) × (r .«in_range» ≡ false) ⌝ }
 {

@@ -1,7 +1,7 @@
 -- A lone coefficient at place 0 passes both passes unchanged: row 0 is the coefficient eight times, and every other row is zeros. Assumes nothing.
 use mathlib.Core.Path.{_≡_, refl, sym, ap, _∙_}
 use mathlib.Core.Bool.{true}
-use mathlib.Core.List.{List, [], _∷_}
+use mathlib.Core.List.{[], _∷_}
 use Prim.Native.Nat.{ℕ, zero, suc, _*_, _/_, _%_, _<_, _+_}
 use native.Mathlib.Omega.{arith}
 use lib.Dec.{lit<}

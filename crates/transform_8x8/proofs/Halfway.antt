@@ -2,7 +2,7 @@
 use mathlib.Core.Path.{_≡_, ap, ap₂, _∙_}
 use mathlib.Core.Bool.{Bool, true, _&&_}
 use mathlib.Core.List.{List}
-use Prim.Native.Nat.{ℕ, zero, suc, _+_, _*_, _/_, _%_, _<_}
+use Prim.Native.Nat.{ℕ, zero, suc, _/_, _%_, _<_}
 use native.Mathlib.Omega.{arith}
 use lib.Dec.{lit<}
 use lib.IntN.{ℤ}
@@ -18,7 +18,7 @@ use Rattle.residual.proofs.InRange.{in-range-within, in-range-short, halves, la
 use Rattle.residual.proofs.InRange as numbers
 use Rattle.residual.proofs.Transform.{rounded-small}
 use Rattle.transform_8x8.specs.Fits8x8.{Fits8x8}
-use Rattle.transform_8x8.specs.Inverse8x8.{firstStep, secondStep, thirdStep, eRow, fRow, gRow, hColumn, kColumn, mColumn, inverse8x8, inRange8x8}
+use Rattle.transform_8x8.specs.Inverse8x8.{secondStep, thirdStep, eRow, fRow, gRow, hColumn, kColumn, mColumn, inverse8x8, inRange8x8}
 use Rattle.transform_8x8.specs.inner.ByColumn.{rowAt}
 use Rattle.transform_8x8.specs.inner.Told.{oddOf, allOfEight, rowTold, columnTold}
 use Rattle.transform_8x8.proofs.Columns.{e-same, f-same, g-same, h-same, k-same, m-same, row-in, h-is, m-is}

@@ -108,9 +108,65 @@ returns-4 c =
       (p₁ .luma-square .ensures n T, (p₂ .chroma-square .ensures k n (omega arith) T, p₃ .chroma-square2 .ensures k n (omega arith) T)),
     )
 
+-- the answers that the search finds, by name: all of them in one term take more memory
+has-rooms-requires : tie.Need-has-rooms-requires
+has-rooms-requires c κs = search needs
+
+same-length : tie.Need-same-length
+same-length c = search needs
+
+same-length-2 : tie.Need-same-length-2
+same-length-2 c = search needs
+
+same-length-3 : tie.Need-same-length-3
+same-length-3 c = search needs
+
+record-answer-requires : tie.Need-record-answer-requires
+record-answer-requires c κs = search needs
+
+same-length-4 : tie.Need-same-length-4
+same-length-4 c = search needs
+
+same-length-5 : tie.Need-same-length-5
+same-length-5 c = search needs
+
+same-length-6 : tie.Need-same-length-6
+same-length-6 c = search needs
+
+slice-aggregate-residuals-of : tie.Need-slice-aggregate-residuals-of
+slice-aggregate-residuals-of c = search needs
+
+same-length-7 : tie.Need-same-length-7
+same-length-7 c = search needs
+
+same-length-8 : tie.Need-same-length-8
+same-length-8 c = search needs
+
+same-length-9 : tie.Need-same-length-9
+same-length-9 c = search needs
+
+slice-aggregate-luma-square : tie.Need-slice-aggregate-luma-square
+slice-aggregate-luma-square c = search needs
+
+slice-aggregate-chroma-square : tie.Need-slice-aggregate-chroma-square
+slice-aggregate-chroma-square c = search needs
+
+slice-aggregate-chroma-square-2 : tie.Need-slice-aggregate-chroma-square-2
+slice-aggregate-chroma-square-2 c = search needs
+
+same-length-10 : tie.Need-same-length-10
+same-length-10 c = search needs
+
+same-length-11 : tie.Need-same-length-11
+same-length-11 c = search needs
+
+same-length-12 : tie.Need-same-length-12
+same-length-12 c = search needs
+
 pub rebuild-spec : {M : Type 1} → statement M
 rebuild-spec =
     tie.close
-    (tie.spec (λ c κs. search needs) (λ c. search needs) (λ c. search needs) (λ c. search needs) returns (λ c κs. search needs) (λ c. search needs) (λ c. search needs) (λ c. search needs) returns-2
-    (λ c. search needs) residuals-of-requires (λ c. search needs) (λ c. search needs) (λ c. search needs) returns-3 (λ c. search needs) luma-square-requires (λ c. search needs) chroma-square-requires
-    (λ c. search needs) chroma-square-requires-2 (λ c. search needs) (λ c. search needs) (λ c. search needs) returns-4)
+    (tie.spec has-rooms-requires same-length same-length-2 same-length-3 returns record-answer-requires same-length-4 same-length-5 same-length-6 returns-2
+    slice-aggregate-residuals-of residuals-of-requires same-length-7 same-length-8 same-length-9 returns-3 slice-aggregate-luma-square luma-square-requires
+    slice-aggregate-chroma-square chroma-square-requires slice-aggregate-chroma-square-2 chroma-square-requires-2 same-length-10 same-length-11 same-length-12
+    returns-4)

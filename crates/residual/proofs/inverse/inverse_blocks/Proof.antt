@@ -1,5 +1,5 @@
 -- `residual::inverse::inverse_blocks` meets its contract: it refuses what its tests refuse. Assumes nothing.
-use mathlib.Core.Path.{_≡_, refl, sym, _∙_}
+use mathlib.Core.Path.{_≡_, sym, _∙_}
 use mathlib.Core.Bool.{true}
 use borrow.Author.Tests.{not-true, not-false, eq-eqb, ne-eqb}
 use Rattle.residual.specs.Numbers.{allInRange}

@@ -1,6 +1,6 @@
 -- `residual::reconstruct::reconstruct_4x4_lists` meets its contract: its tests say all that `add_clipped` asks. Assumes nothing.
 use mathlib.Core.Path.{_≡_, refl, sym, ap, _∙_, subst}
-use mathlib.Core.Bool.{true, false, _&&_}
+use mathlib.Core.Bool.{true}
 use borrow.Author.Tests.{not-true, not-false}
 use lib.ListN.{length}
 use Rattle.laws.specs.Range.{AllWithin}
