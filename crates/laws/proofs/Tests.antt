@@ -2,9 +2,9 @@
 use mathlib.Core.Path.{_≡_, refl, sym, ap, ap₂, _∙_}
 use mathlib.Core.Bool.{Bool, true, false, not, cond, _&&_, _||_}
 use mathlib.Core.Logic.{_≢_, _⊎_, inl, inr, ⊎-elim}
-use Prim.Native.Nat.{ℕ, zero, suc, _+_, _<_, _≤_}
+use Prim.Native.Nat.{ℕ, zero, suc, _+_, _*_, _<_, _≤_}
 use native.Mathlib.Decide.{decLt}
-use native.Mathlib.Nat.{add-suc, add-zero, eq-or-lt-of-le}
+use native.Mathlib.Nat.{add-suc, add-zero, eq-or-lt-of-le, mul-zero, mul-suc}
 use native.Mathlib.Numerals.{add-one}
 use native.Mathlib.Omega.{arith}
 use borrow.Author.Tests.{lt-ltb, le-ltb}
@@ -189,6 +189,12 @@ all-split m zero f = ap (λ k. allBelow k f) (add-zero m) ∙ alone (allBelow m 
     alone false = refl
 all-split m (suc n) f =
     ap (λ k. allBelow k f) (add-suc m n) ∙ ap (λ t. t && f (m + n)) (all-split m n f) ∙ and-assoc (allBelow m f) (allBelow n (λ k. f (m + k))) (f (m + n))
+
+-- n groups of m each
+pub all-groups : (m n : ℕ) (f : ℕ → Bool) → allBelow n (λ b. allBelow m (λ c. f (m * b + c))) ≡ allBelow (m * n) f
+unfolding allBelow
+all-groups m zero f = rw mul-zero
+all-groups m (suc n) f = ap (λ t. t && allBelow m (λ c. f (m * n + c))) (all-groups m n f) ∙ sym (all-split (m * n) m f) ∙ ap (λ k. allBelow k f) (sym (mul-suc m n))
 
 -- a loop without a way out, after another test: how it starts, and how it goes on
 pub all-start : (x : Bool) (f : ℕ → Bool) → x ≡ x && allBelow 0 f

@@ -28,7 +28,7 @@ module _ (marks : Side → Bool) (r : Record) where
     pub chroma : modeAnswer 3 (permittedChroma (marks B) (marks A) (marks D)) (r .«chroma_mode») ≡ 0
 
   -- a used mode that is known is at most the last
-  used-known : (k : ℕ) → k < used (r .kind) → allBelow 16 (modeKnown (r .kind) (r .modes)) ≡ true → leb (getD (r .modes) k 0) (lastMode (r .kind)) ≡ true
+  pub used-known : (k : ℕ) → k < used (r .kind) → allBelow 16 (modeKnown (r .kind) (r .modes)) ≡ true → leb (getD (r .modes) k 0) (lastMode (r .kind)) ≡ true
   used-known k h e =
       ap (λ t. cond t (leb (getD (r .modes) k 0) (lastMode (r .kind))) (eqb (getD (r .modes) k 0) 0)) (sym (lt-ltb k (used (r .kind)) h))
       ∙ all-at 16 (modeKnown (r .kind) (r .modes)) e k (omega (arith, used-few (r .kind)))

@@ -7,9 +7,12 @@ mod Early
 mod Fitting
 mod Held
 mod Locality
+mod Marked
 mod Pieces
 mod Predicted
+mod Quarters
 mod Rooms
+mod Rows
 mod Scan
 mod Sides
 mod Sums

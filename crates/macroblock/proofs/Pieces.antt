@@ -2,8 +2,8 @@
 use mathlib.Core.Path.{_≡_, refl, sym, ap, _∙_, subst}
 use mathlib.Core.Bool.{Bool, true, false, cond}
 use mathlib.Core.List.{List}
-use Prim.Native.Nat.{ℕ, suc, _+_, _*_, _/_, _%_, _<_, _≤_}
-use native.Mathlib.Nat.{mod-lt, div-add-mod', mul-comm, mul-assoc, mul-le-mul, mul-le-mul-right, add-mul, suc-mul}
+use Prim.Native.Nat.{ℕ, _+_, _*_, _/_, _%_, _<_}
+use native.Mathlib.Nat.{mod-lt, div-add-mod', mul-comm, mul-assoc, add-mul}
 use native.Mathlib.Omega.{arith}
 use lib.Arith.{digits-div, digits-mod, digits-lt}
 use lib.Dec.{T}
@@ -16,12 +16,10 @@ use Rattle.order.proofs.Parts.{parts-at, parts-keeps, parts-ok, parts-writes}
 use Rattle.basics.specs.Nnz.{blkIdx}
 use Rattle.macroblock.specs.declared.cut.Place.{Place}
 use Rattle.macroblock.specs.Cut.{scanX, scanY, placeOf}
-use Rattle.macroblock.specs.Square.{inBlock, placeAt, putBlock}
+use Rattle.macroblock.specs.Square.{inBlock, putBlock}
 use Rattle.macroblock.specs.inner.Blocks.{Scan, BlockIn}
 use Rattle.macroblock.proofs.Locality.{InPart, block-apart, block-in, block-cover, in-plane}
-use Rattle.macroblock.proofs.Fitting.{in-row}
 use Rattle.macroblock.proofs.Places.{At, at-row, at-column}
-use Rattle.macroblock.proofs.Sides.{in-block}
 
 -- a block whose samples are given by two rules that agree in it
 pub put-same : (q : ℕ) (p : Place) (u w : ℕ → ℕ → ℕ) (l : List ℕ) → 0 < q → ((x y : ℕ) → x < q → y < q → u x y ≡ w x y) → putBlock q p u l ≡ putBlock q p w l
@@ -82,33 +80,3 @@ module _ (q m n : ℕ) (p : Place) (f : ℕ → ℕ → ℕ → ℕ) (S : Scan m
           → getD (upTo piece (m * m) l) i 0 ≡ cond b (wholeOf q f (i % s % (q * m)) (i / s % (q * m))) (getD l i 0)
       go i true e = in-square l i o (true-T (inBlock (q * m) s (p .row) (p .column) i) e)
       go i false e = parts-writes parts l i o (λ k hk t. subst T e (block-in q m p S k i hk t))
-
--- sample (c % 4, r % 4) of piece (c / 4, r / 4) of a block whose rows are w apart is sample (c, r) of the block
-pub place-in : (w c r : ℕ) → r / 4 * 4 * w + c / 4 * 4 + r % 4 * w + c % 4 ≡ r * w + c
-place-in w c r =
-    let e : r * w ≡ r / 4 * 4 * w + r % 4 * w = ap (λ n. n * w) (let f : r ≡ r / 4 * 4 + r % 4 = omega arith in f) ∙ add-mul (r / 4 * 4) (r % 4) w in
-    omega arith
-
--- ---- 4x4 piece k, in column u and row v of m across: it lies in the plane and in the prediction
-pub record AtPiece (m : ℕ) (p : Place) (n u v : ℕ) : Type 0 where
-  pub across : u < m
-  pub down : v < m
-  pub block : BlockIn 4 (placeAt (p .stride) (p .row * m + v) (p .column * m + u)) n
-  pub line : (p .row * m + v) * 4 ≤ n
-  pub offset : v * 4 * (4 * m) ≤ 256
-  pub inside : v * 4 * (4 * m) + u * 4 + 3 * (4 * m) + 4 ≤ 4 * m * (4 * m)
-
-pub at-piece : {m n k u v : ℕ} {p : Place} → Scan m → m ≤ 4 → k < m * m → BlockIn (4 * m) p n → u ≡ scanX k → v ≡ scanY k → AtPiece m p n u v
-at-piece {m} {n} {k} {u} {v} {p} S few hk F eu ev =
-    let hu : u < m = rw eu (S .x-lt k hk) in
-    let hv : v < m = rw ev (S .y-lt k hk) in
-    let w : BlockIn 4 (placeAt (p .stride) (p .row * m + v) (p .column * m + u)) n = rw (eu, ev) (in-block 4 m k S (omega arith) hk F) in
-    let a : suc (v * 4 + 3) * (4 * m) ≤ 4 * m * (4 * m) = mul-le-mul-right (4 * m) (omega arith) in
-    record {
-      across = hu;
-      down = hv;
-      block = w;
-      line = omega (arith, in-row 0 w (omega arith) .line);
-      offset = mul-le-mul {n₁ = v * 4} {n₂ = 16} {m₂ = 16} (omega arith) (omega arith);
-      inside = omega (arith, suc-mul (v * 4 + 3) (4 * m), add-mul (v * 4) 3 (4 * m));
-    }

@@ -1,25 +1,33 @@
 -- Residuals where a macroblock's numbers stood: all of them in 4x4 blocks, and the luma's in 8x8 blocks. Assumes nothing.
 use mathlib.Core.Path.{_≡_, refl, sym, ap, _∙_, subst}
 use mathlib.Core.Logic.{_≢_}
-use mathlib.Core.Bool.{_&&_}
+use mathlib.Core.Bool.{Bool, true, cond, _&&_}
 use mathlib.Core.List.{List, _++_}
-use Prim.Native.Nat.{ℕ, zero, suc, _+_, _*_, _-_, _/_, _<_, _≤_}
+use Prim.Native.Nat.{ℕ, zero, suc, _+_, _*_, _-_, _/_, _%_, _<_, _≤_}
+use native.Mathlib.Decide.{decLt}
 use native.Mathlib.Omega.{arith}
 use borrow.Rule.Slice.PartMut.{putMid, midOf, postOf}
 use lib.IntN.{ℤ, pos}
-use lib.ListN.{length, take, drop, length-append, length-take, length-drop, List·getD-append}
+use lib.ListN.{length, getD, take, drop, length-append, length-take, length-drop, List·getD-append}
 use lib.Seq.{getD-take, getD-append-add}
+use Rattle.laws.specs.Answer.{written}
 use Rattle.laws.specs.Range.{at}
 use Rattle.laws.specs.Table.{allBelow, allBlocks, blockwise}
+use Rattle.laws.proofs.Answers.{put}
 use Rattle.laws.proofs.Blockwise.{blockwise-at}
 use Rattle.laws.proofs.Stretches.{part-at}
-use Rattle.laws.proofs.Tables.{length-table, table-same}
+use Rattle.laws.proofs.Tables.{length-table, getD-table, table-same}
 use Rattle.laws.proofs.Tests.{all-same, all-split}
 use Rattle.residual.specs.Inverse.{inverse4x4, inRange4x4}
+use Rattle.residual.specs.Numbers.{allInRange}
+use Rattle.residual.specs.Quads.{codedQuad, codedQuads}
+use Rattle.residual.proofs.Quads.{blank-quad}
+use Rattle.residual.proofs.Rooms.{blocks-numbers}
 use Rattle.transform_8x8.specs.Inverse8x8.{inverse8x8, inRange8x8}
+use Rattle.transform_8x8.proofs.Firsts.{blank-block}
 use Rattle.macroblock.specs.Kinds.{coefficients, residual4x4, residual8x8}
 use Rattle.macroblock.specs.Rules.{lumaInRange, chromaInRange}
-use Rattle.macroblock.specs.inner.Blocks.{Transformed, firstFor}
+use Rattle.macroblock.specs.inner.Blocks.{Transformed, Coded, firstFor}
 
 -- ---- the blocks of a list's parts
 -- those of the first 256 numbers are those of the list
@@ -74,13 +82,47 @@ part-blocks : (l : List ℤ) (n first b x y : ℕ) → 16 * b + 16 ≤ n → res
 unfolding residual4x4
 part-blocks l n first b x y room = ap (λ t. at (inverse4x4 t) (4 * y + x)) (part-block l n first b room)
 
+-- ---- a list whose first n places are put, and then those after them, each through its own part
+module _ {A : Type 0} (z : A) (n : ℕ) (xs out ys : List A) (long : length xs ≡ n) (k : ℕ) where
+  abbrev halves : List A
+  halves = putMid n k (xs ++ drop n out) ys
+
+  head : length (take n (xs ++ drop n out)) ≡ n
+  head = length-take n (xs ++ drop n out) ∙ omega (arith, length-append xs (drop n out))
+
+  early : (i : ℕ) → i < n → getD halves i z ≡ getD xs i z
+  early i h =
+      List·getD-append (take n (xs ++ drop n out)) (ys ++ postOf n k (xs ++ drop n out)) z i (omega (arith, head))
+      ∙ getD-take n (xs ++ drop n out) i z h ∙ List·getD-append xs (drop n out) z i (omega arith)
+
+  late : (i j : ℕ) → i ≡ n + j → j < length ys → getD halves i z ≡ getD ys j z
+  late i j e h =
+      let at-j : i ≡ length (take n (xs ++ drop n out)) + j = omega (arith, head) in
+      ap (λ m. getD halves m z) at-j ∙ getD-append-add (take n (xs ++ drop n out)) (ys ++ postOf n k (xs ++ drop n out)) j z
+      ∙ List·getD-append ys (postOf n k (xs ++ drop n out)) z j h
+
+-- the marks of all quads, where all blocks are 4x4
+pub all-coded : (l l′ : List ℤ) (coded : List ℕ) → length l ≡ 384 → l′ ≡ blockwise 16 inverse4x4 l → coded ≡ codedQuads l → Coded l′ coded
+all-coded l l′ coded long e f = record {
+  six = ap length f ∙ length-table 0 (length l / 64) (codedQuad l) ∙ omega arith;
+  blank = λ q i hq hi z.
+      ap (λ t. at t (64 * q + i)) e
+      ∙ blank-quad l q i hi (omega arith) (sym (ap (λ t. getD t q 0) f ∙ getD-table 0 (length l / 64) (codedQuad l) q (omega arith)) ∙ z);
+}
+
 -- the first 256 numbers transformed in 64s, and those from block 16 on in sixteens, each put through its own part of `out`
 module _ (l out xs : List ℤ) (long : length l ≡ 384) (room : length out ≡ 384) (front : xs ≡ blockwise 64 inverse8x8 (take 256 l)) where
   abbrev m : List ℤ
   m = xs ++ drop 256 out
 
+  abbrev rest : List ℤ
+  rest = midOf 256 (length l - 256) l
+
   head-long : length (take 256 l) ≡ 256
   head-long = length-take 256 l ∙ omega arith
+
+  tail-long : length rest ≡ 128
+  tail-long = length-take (length l - 256) (drop 256 l) ∙ omega (arith, length-drop 256 l)
 
   xs-long : length xs ≡ 256
   xs-long = ap length front ∙ length-table (pos 0) (length (take 256 l)) _ ∙ head-long
@@ -88,39 +130,62 @@ module _ (l out xs : List ℤ) (long : length l ≡ 384) (room : length out ≡ 
   pub kept-long : length m ≡ 384
   kept-long = simp (length-append, length-drop) (omega (arith, xs-long))
 
-  module _ (ys : List ℤ) (e : ys ≡ blockwise 16 inverse4x4 (midOf 256 (length l - 256) l)) where
+  module _ (ys : List ℤ) (e : ys ≡ blockwise 16 inverse4x4 rest) where
     abbrev k : ℕ
     k = length m - 256
 
-    rest-long : length ys ≡ 128
-    rest-long =
-        ap length e ∙ length-table (pos 0) (length (midOf 256 (length l - 256) l)) _
-        ∙ length-take (length l - 256) (drop 256 l) ∙ omega (arith, length-drop 256 l)
-
-    head : length (take 256 m) ≡ 256
-    head = length-take 256 m ∙ omega (arith, kept-long)
+    ys-long : length ys ≡ 128
+    ys-long = ap length e ∙ length-table (pos 0) (length rest) _ ∙ tail-long
 
     -- a place before 256, and one after
-    early : (i : ℕ) → i < 256 → at (putMid 256 k m ys) i ≡ at (blockwise 64 inverse8x8 (take 256 l)) i
-    early i h =
-        List·getD-append (take 256 m) (ys ++ postOf 256 k m) (pos 0) i (omega (arith, head)) ∙ getD-take 256 m i (pos 0) h
-        ∙ List·getD-append xs (drop 256 out) (pos 0) i (omega (arith, xs-long)) ∙ ap (λ t. at t i) front
+    in-luma : (i : ℕ) → i < 256 → at (putMid 256 k m ys) i ≡ at (blockwise 64 inverse8x8 (take 256 l)) i
+    in-luma i h = early (pos 0) 256 xs out ys xs-long k i h ∙ ap (λ t. at t i) front
 
-    late : (i j : ℕ) → i ≡ 256 + j → j < 128 → at (putMid 256 k m ys) i ≡ at (blockwise 16 inverse4x4 (midOf 256 (length l - 256) l)) j
-    late i j n h =
-        let at-j : i ≡ length (take 256 m) + j = omega (arith, head) in
-        ap (at (putMid 256 k m ys)) at-j ∙ getD-append-add (take 256 m) (ys ++ postOf 256 k m) j (pos 0)
-        ∙ List·getD-append ys (postOf 256 k m) (pos 0) j (omega (arith, rest-long)) ∙ ap (λ t. at t j) e
+    in-chroma : (i j : ℕ) → i ≡ 256 + j → j < 128 → at (putMid 256 k m ys) i ≡ at (blockwise 16 inverse4x4 rest) j
+    in-chroma i j n h = late (pos 0) 256 xs out ys xs-long k i j n (omega (arith, ys-long)) ∙ ap (λ t. at t j) e
 
     pub both-transformed : Transformed 16 l (putMid 256 k m ys)
     both-transformed = record {
       before = λ b x y h hx hy.
-          early (64 * b + (8 * y + x)) (omega arith) ∙ blocks-8x8-at (take 256 l) b x y (omega (arith, head-long)) hx hy ∙ front-blocks l b x y (omega arith);
+          in-luma (64 * b + (8 * y + x)) (omega arith) ∙ blocks-8x8-at (take 256 l) b x y (omega (arith, head-long)) hx hy ∙ front-blocks l b x y (omega arith);
       after = λ b x y low h hx hy.
-          late (16 * b + (4 * y + x)) (16 * (b - 16) + (4 * y + x)) (omega arith) (omega arith)
-          ∙ blocks-at (midOf 256 (length l - 256) l) (b - 16) x y (omega (arith, length-take (length l - 256) (drop 256 l), length-drop 256 l)) hx hy
+          in-chroma (16 * b + (4 * y + x)) (16 * (b - 16) + (4 * y + x)) (omega arith) (omega arith)
+          ∙ blocks-at rest (b - 16) x y (omega (arith, tail-long)) hx hy
           ∙ part-blocks l (length l - 256) 16 (b - 16) x y (omega arith) ∙ ap (λ n. residual4x4 l n x y) (let e : 16 + (b - 16) ≡ b = omega arith in e);
     }
+
+    -- and the marks of their quads
+    module _ (coded xc yc : List ℕ) (six : length coded ≡ 6) (front-marks : xc ≡ codedQuads (take 256 l)) (rest-marks : yc ≡ codedQuads rest) where
+      abbrev c : ℕ
+      c = length (xc ++ drop 4 coded) - 4
+
+      xc-long : length xc ≡ 4
+      xc-long = ap length front-marks ∙ length-table 0 (length (take 256 l) / 64) _ ∙ omega (arith, head-long)
+
+      yc-long : length yc ≡ 2
+      yc-long = ap length rest-marks ∙ length-table 0 (length rest / 64) _ ∙ omega (arith, tail-long)
+
+      blank : (q i : ℕ) → q < 6 → i < 64 → Dec (q < 4) → getD (putMid 4 c (xc ++ drop 4 coded) yc) q 0 ≡ 0 → at (putMid 256 k m ys) (64 * q + i) ≡ pos 0
+      blank q i hq hi (yes p) z =
+          in-luma (64 * q + i) (omega arith)
+          ∙ blank-block (take 256 l) q i hi (omega (arith, head-long))
+          (sym (early 0 4 xc coded yc xc-long c q p ∙ ap (λ t. getD t q 0) front-marks
+          ∙ getD-table 0 (length (take 256 l) / 64) (codedQuad (take 256 l)) q (omega (arith, head-long))) ∙ z)
+      blank q i hq hi (no p) z =
+          let j = q - 4 in
+          let n : 64 * q + i ≡ 256 + (64 * j + i) = omega arith in
+          in-chroma (64 * q + i) (64 * j + i) n (omega arith)
+          ∙ blank-quad rest j i hi (omega (arith, tail-long))
+          (sym (late 0 4 xc coded yc xc-long c q j (omega arith) (omega (arith, yc-long)) ∙ ap (λ t. getD t j 0) rest-marks
+          ∙ getD-table 0 (length rest / 64) (codedQuad rest) j (omega (arith, tail-long))) ∙ z)
+
+      pub both-coded : Coded (putMid 256 k m ys) (putMid 4 c (xc ++ drop 4 coded) yc)
+      both-coded = record { six = simp (length-append, length-take, length-drop) (omega (arith, xc-long, yc-long)); blank = λ q i hq hi z. blank q i hq hi (decLt q 4) z }
+
+-- what a call puts whose lengths pass, where all its blocks are in range
+pub blocks-made : (n : ℕ) (good : List ℤ → Bool) → 0 < n → ((d : List ℤ) → length d ≡ n → good d ≡ true → allInRange d ≡ true) → (l old new : List ℤ) {out : List ℤ} {r : ℕ}
+    → length l % n ≡ 0 → r ≡ 0 → out ≡ written r old (cond (allInRange l) new old) → allBlocks n good l ≡ true → out ≡ new
+blocks-made n good some numbers l old new whole z e g = e ∙ put _ _ z ∙ ap (λ t. cond t new old) (blocks-numbers n good some numbers l whole g)
 
 -- ---- by kind
 pub kind-one : {l l′ : List ℤ} (kind : ℕ) → kind ≡ 1 → Transformed 16 l l′ → Transformed (firstFor kind) l l′

@@ -70,11 +70,44 @@ pub fn rebuild(
         return answer;
     }
     let mut residuals = [0i16; 384];
-    if !residuals_of(kind, numbers, &mut residuals) {
+    let mut coded = [0u8; 6];
+    if !residuals_of(kind, numbers, &mut residuals, &mut coded) {
         return 8;
     }
-    luma_square(luma, strides.luma, x, y, marks, kind, modes, &residuals);
-    chroma_square(cb, strides.cb, x, y, marks, chroma_mode, &residuals, 16);
-    chroma_square(cr, strides.cr, x, y, marks, chroma_mode, &residuals, 20);
+    luma_square(
+        luma,
+        strides.luma,
+        x,
+        y,
+        marks,
+        kind,
+        modes,
+        &residuals,
+        &coded,
+    );
+    let in_cb = coded[4] != 0;
+    chroma_square(
+        cb,
+        strides.cb,
+        x,
+        y,
+        marks,
+        chroma_mode,
+        &residuals,
+        16,
+        in_cb,
+    );
+    let in_cr = coded[5] != 0;
+    chroma_square(
+        cr,
+        strides.cr,
+        x,
+        y,
+        marks,
+        chroma_mode,
+        &residuals,
+        20,
+        in_cr,
+    );
     0
 }

@@ -1,15 +1,17 @@
 // A macroblock's square in each of its planes, block by block.
 ghost use mathlib.Core.Path.{_≡_};
+ghost use mathlib.Core.Bool.{false};
 ghost use mathlib.Core.List.{List};
-ghost use Prim.Native.Nat.{ℕ, _≤_, _<_};
-ghost use lib.IntN.{ℤ};
+ghost use Prim.Native.Nat.{ℕ, _+_, _*_, _≤_, _<_};
+ghost use lib.IntN.{ℤ, pos};
 ghost use lib.ListN.{length};
+ghost use Rattle.laws.specs.Range.{at};
 ghost use Rattle.maps.specs.Neighbours.{marksOf};
 ghost use Rattle.macroblock.specs.Cut.{four, eight, whole};
 ghost use Rattle.macroblock.specs.Kinds.{cutFor, lumaRule, chromaRule};
 ghost use Rattle.macroblock.specs.Rules.{used};
 ghost use Rattle.macroblock.specs.Square.{placeAt, part, allParts};
-ghost use Rattle.macroblock.specs.inner.Blocks.{LumaReady, ChromaReady, Transformed, firstFor};
+ghost use Rattle.macroblock.specs.inner.Blocks.{LumaReady, ChromaReady, Coded, Transformed, firstFor};
 use super::cut::Place;
 use super::cut::place_of;
 use super::cut::sides_of;
@@ -20,7 +22,8 @@ use super::predict::predict_16x16;
 use super::predict::predict_chroma;
 use super::put::put_4x4;
 use super::put::put_8x8;
-use super::put::put_pieces;
+use super::put::put_16x16;
+use super::put::put_quad;
 use super::rules::used_modes;
 use maps::neighbours::Marks;
 
@@ -39,8 +42,9 @@ fn block_4x4(
 {
     let block = place_of(k, 4, place);
     let sides = sides_of(k, 4, marks);
-    let pred = predict_4x4(plane, block, sides, modes[k]);
-    put_4x4(plane, block, &pred, 0, 4, residuals, k);
+    let mut pred = [0u8; 16];
+    predict_4x4(plane, block, sides, modes[k], &mut pred);
+    put_4x4(plane, block, &pred, residuals, k);
 }
 
 // Luma block k of kind 1.
@@ -50,27 +54,40 @@ fn block_8x8(
     marks: Marks,
     modes: &[u8],
     residuals: &[i16],
+    coded: &[u8],
     k: usize,
 )
     requires { ⌜ LumaReady 1 place (length (now plane)) (marksOf marks) (now modes) (now residuals) × (k < 4) ⌝ }
+    requires { ⌜ Coded (now residuals) (now coded) ⌝ }
     ensures { λ _. ⌜ ((numbers : List ℤ) → Transformed 16 numbers (now (residuals .entry)) → now (plane .exit)
         ≡ part eight (lumaRule 1 (now (modes .entry)) numbers) (place .stride) (place .column) (place .row) (marksOf marks) k (now (plane .entry))) ⌝ }
 {
     let block = place_of(k, 2, place);
     let sides = sides_of(k, 2, marks);
-    let pred = predict_8x8(plane, block, sides, modes[k]);
-    put_8x8(plane, block, &pred, residuals, k);
+    let mut pred = [0u8; 64];
+    predict_8x8(plane, block, sides, modes[k], &mut pred);
+    let some = coded[k] != 0;
+    put_8x8(plane, block, &pred, residuals, k, some);
 }
 
 // The luma block of kind 2.
-fn block_16x16(plane: &mut [u8], place: Place, marks: Marks, modes: &[u8], residuals: &[i16])
+fn block_16x16(
+    plane: &mut [u8],
+    place: Place,
+    marks: Marks,
+    modes: &[u8],
+    residuals: &[i16],
+    coded: &[u8],
+)
     requires { ⌜ LumaReady 2 place (length (now plane)) (marksOf marks) (now modes) (now residuals) ⌝ }
+    requires { ⌜ Coded (now residuals) (now coded) ⌝ }
     ensures { λ _. ⌜ ((numbers : List ℤ) → Transformed 0 numbers (now (residuals .entry)) → now (plane .exit)
         ≡ part (whole 16) (lumaRule 2 (now (modes .entry)) numbers) (place .stride) (place .column) (place .row) (marksOf marks) 0 (now (plane .entry))) ⌝ }
 {
     let sides = square_sides(marks);
-    let pred = predict_16x16(plane, place, sides, modes[0]);
-    put_pieces(plane, place, 4, &pred, residuals, 0);
+    let mut pred = [0u8; 256];
+    predict_16x16(plane, place, sides, modes[0], &mut pred);
+    put_16x16(plane, place, &pred, residuals, coded);
 }
 
 // Luma block k of any kind.
@@ -81,9 +98,11 @@ fn luma_block(
     kind: u8,
     modes: &[u8],
     residuals: &[i16],
+    coded: &[u8],
     k: usize,
 )
     requires { ⌜ LumaReady kind place (length (now plane)) (marksOf marks) (now modes) (now residuals) × (k < used kind) ⌝ }
+    requires { ⌜ Coded (now residuals) (now coded) ⌝ }
     ensures { λ _. ⌜ ((numbers : List ℤ) → Transformed (firstFor kind) numbers (now (residuals .entry)) → now (plane .exit)
         ≡ part (cutFor kind) (lumaRule kind (now (modes .entry)) numbers) (place .stride) (place .column) (place .row) (marksOf marks) k
         (now (plane .entry))) ⌝ }
@@ -91,9 +110,9 @@ fn luma_block(
     if kind == 0 {
         block_4x4(plane, place, marks, modes, residuals, k);
     } else if kind == 1 {
-        block_8x8(plane, place, marks, modes, residuals, k);
+        block_8x8(plane, place, marks, modes, residuals, coded, k);
     } else {
-        block_16x16(plane, place, marks, modes, residuals);
+        block_16x16(plane, place, marks, modes, residuals, coded);
     }
 }
 
@@ -107,8 +126,10 @@ pub(crate) fn luma_square(
     kind: u8,
     modes: &[u8],
     residuals: &[i16],
+    coded: &[u8],
 )
     requires { ⌜ LumaReady kind (placeAt stride y x) (length (now plane)) (marksOf marks) (now modes) (now residuals) ⌝ }
+    requires { ⌜ Coded (now residuals) (now coded) ⌝ }
     ensures { λ _. ⌜ ((numbers : List ℤ) → Transformed (firstFor kind) numbers (now (residuals .entry)) → now (plane .exit)
         ≡ allParts (cutFor kind) (lumaRule kind (now (modes .entry)) numbers) stride x y (marksOf marks) (now (plane .entry))) ⌝ }
 {
@@ -120,12 +141,12 @@ pub(crate) fn luma_square(
     let n = used_modes(kind);
     let mut k = 0;
     while k < n {
-        luma_block(plane, place, marks, kind, modes, residuals, k);
+        luma_block(plane, place, marks, kind, modes, residuals, coded, k);
         k += 1;
     }
 }
 
-// A chroma plane's square, whose residuals are those of the blocks from `base` on.
+// A chroma plane's square, whose residuals are those of the blocks from `base` on, and all 0 unless `some` says that there may be others.
 pub(crate) fn chroma_square(
     plane: &mut [u8],
     stride: usize,
@@ -135,8 +156,10 @@ pub(crate) fn chroma_square(
     mode: u8,
     residuals: &[i16],
     base: usize,
+    some: bool,
 )
     requires { ⌜ ChromaReady mode base (placeAt stride y x) (length (now plane)) (marksOf marks) (now residuals) ⌝ }
+    requires { ⌜ (some ≡ false → (i : ℕ) → i < 64 → at (now residuals) (16 * base + i) ≡ pos 0) ⌝ }
     ensures { λ _. ⌜ ((first : ℕ) (numbers : List ℤ) → first ≤ base → Transformed first numbers (now (residuals .entry)) → now (plane .exit)
         ≡ allParts (whole 8) (chromaRule mode numbers base) stride x y (marksOf marks) (now (plane .entry))) ⌝ }
 {
@@ -146,6 +169,7 @@ pub(crate) fn chroma_square(
         column: x,
     };
     let sides = square_sides(marks);
-    let pred = predict_chroma(plane, place, sides, mode);
-    put_pieces(plane, place, 2, &pred, residuals, base);
+    let mut pred = [0u8; 64];
+    predict_chroma(plane, place, sides, mode, &mut pred);
+    put_quad(plane, place, &pred, 0, 8, residuals, base, some);
 }

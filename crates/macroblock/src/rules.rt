@@ -1,7 +1,7 @@
 // What a macroblock call is refused for before its numbers are read: a square or a neighbour outside its plane, or lists of other lengths (2), an unknown
 // record (6) and a mode that is not permitted (7).
 ghost use mathlib.Core.Path.{_≡_};
-ghost use mathlib.Core.Bool.{cond, not, _&&_, _||_};
+ghost use mathlib.Core.Bool.{true, cond, not, _&&_, _||_};
 ghost use mathlib.Core.List.{List};
 ghost use Prim.Native.Nat.{_<_, _≤_};
 ghost use lib.Dec.{eqb, ltb, leb};
@@ -139,11 +139,15 @@ fn last_mode(kind: u8) -> u8
     if kind < 2 { 8 } else { 3 }
 }
 
-// Whether each used mode is permitted where it stands.
+// Whether each used mode of a known record is permitted where it stands. Where left, above and corner are marked, every known mode is.
 fn is_permitted(marks: Marks, kind: u8, modes: &[u8], chroma_mode: u8) -> bool
     requires { ⌜ length (now modes) ≡ 16 ⌝ }
+    requires { ⌜ ((numbers : List ℤ) → known (recordOf kind (now modes) «chroma_mode» numbers) ≡ true) ⌝ }
     ensures { λ r. ⌜ ((numbers : List ℤ) → r ≡ permitted (marksOf marks) (recordOf kind (now (modes .entry)) «chroma_mode» numbers)) ⌝ }
 {
+    if both(both(marks.a, marks.b), marks.d) {
+        return true;
+    }
     let n = used_modes(kind);
     let m = across(kind);
     let mut k = 0;

@@ -1,5 +1,5 @@
 -- Numbers in range: what a list of them says of each, and how a loop shows it. Assumes nothing.
-use mathlib.Core.Path.{_≡_, refl, sym, ap, _∙_, subst}
+use mathlib.Core.Path.{_≡_, refl, sym, ap, ap₂, _∙_, subst}
 use mathlib.Core.Bool.{Bool, true, false, cond, _&&_}
 use mathlib.Core.List.{List, [], _∷_}
 use Prim.Native.Nat.{ℕ, zero, suc, _+_, _<_, _≤_}
@@ -18,8 +18,9 @@ use Rattle.laws.specs.Table.{allBelow}
 use Rattle.laws.proofs.Stretches.{part-at}
 use Rattle.laws.proofs.Ints.{up, dn, parts-add, parts-neg, parts-pos, lt-parts, ge-parts}
 use Rattle.laws.proofs.Tests as tests
-use Rattle.laws.proofs.Tests.{true-T, T-true, not-both, same-test, and-left, and-right, and-of, and-no, both-left, both-right, both-of, choose, all-of, all-next}
-use Rattle.residual.specs.Numbers.{inRange, allInRange, lastInRange}
+use Rattle.laws.proofs.Tests.{true-T, T-true, not-both, same-test, and-left, and-right, and-of, and-no, choose, all-of, all-both, all-after}
+use Rattle.residual.specs.declared.numbers.Span.{Span}
+use Rattle.residual.specs.Numbers.{inRange, allInRange, allOf, lastInRange}
 
 pub in-range-within : (z : ℤ) → inRange z ≡ true → Within 32768 z
 unfolding inRange
@@ -132,40 +133,36 @@ greatest-tells z a b =
     (λ e. second (leZ a z) (leZ b z) (λ h. parts-le a z (omega (arith, le-parts b z h, lt-parts a b e))))
     (λ e. first (leZ a z) (leZ b z) (λ h. parts-le b z (omega (arith, le-parts a z h, ge-parts a b e))))
 
--- the numbers of a list are in range where none is too low and none too high
-abbrev pub low : List ℤ → ℕ → Bool
-low s k = leZ (minus 32768) (at s k)
-
-abbrev pub high : List ℤ → ℕ → Bool
-high s k = leZ (at s k) (pos 32767)
-
-pub all-parts : (s : List ℤ) (n : ℕ) → length s ≡ n → allBelow n (low s) && allBelow n (high s) ≡ allInRange s
-unfolding inRange
-all-parts s n e =
-    same-test (allBelow n (low s) && allBelow n (high s)) (allInRange s)
-    (λ t.
-    let l = T-true _ (both-left (allBelow n (low s)) (allBelow n (high s)) t) in
-    let h = T-true _ (both-right (allBelow n (low s)) (allBelow n (high s)) t) in
-    true-T _ (all-true s (λ k b. and-of (tests.all-at n (low s) l k (omega arith)) (tests.all-at n (high s) h k (omega arith)))))
-    (λ t.
-    let good : (k : ℕ) → inRange (at s k) ≡ true = λ k. all-at s k (T-true (allInRange s) t) in
-    both-of (allBelow n (low s)) (allBelow n (high s)) (true-T _ (all-of n (low s) (λ k b. and-left (low s k) (high s k) (good k))))
-    (true-T _ (all-of n (high s) (λ k b. and-right (low s k) (high s k) (good k)))))
-
 -- how a loop that keeps the least, or the greatest, of the numbers passed goes on to number i, and back through the machine's word
 pub kept : (t : Bool) (a b r : ℤ) → SFits w32 a → SFits w32 b → r ≡ cond t b a → SFits w32 (toZ w32 (ofZ w32 r)) × (toZ w32 (ofZ w32 r) ≡ cond t b a)
 kept t a b r fa fb e =
     let f : SFits w32 r = subst (SFits w32) (sym e) (choose (SFits w32) t b a (λ _. fb) (λ _. fa)) in
     (subst (SFits w32) (sym (toZ-ofZ f)) f, toZ-ofZ f ∙ e)
 
-pub least-next : (s : List ℤ) (i : ℕ) (a r : ℤ) → SFits w32 a → SFits w32 (at s i) → leZ (minus 32768) a ≡ allBelow i (low s) → r ≡ cond (ltZ (at s i) a) (at s i) a
-    → SFits w32 (toZ w32 (ofZ w32 r)) × (leZ (minus 32768) (toZ w32 (ofZ w32 r)) ≡ allBelow (i + 1) (low s))
-least-next s i a r fa fb h e =
-    let (f, k) = kept (ltZ (at s i) a) a (at s i) r fa fb e in
-    (f, ap (leZ (minus 32768)) k ∙ least-tells (minus 32768) a (at s i) ∙ ap (λ t. t && low s i) h ∙ all-next i (low s))
+-- t tells of what was passed before the list
+module _ (s : List ℤ) (i : ℕ) (a r : ℤ) (t : ℤ → Bool) (fa : SFits w32 a) (fb : SFits w32 (at s i)) where
+  pub least-next : ((z : ℤ) → leZ z a ≡ t z && allBelow i (λ k. leZ z (at s k))) → r ≡ cond (ltZ (at s i) a) (at s i) a
+      → SFits w32 (toZ w32 (ofZ w32 r)) × ((z : ℤ) → leZ z (toZ w32 (ofZ w32 r)) ≡ t z && allBelow (i + 1) (λ k. leZ z (at s k)))
+  least-next h e =
+      let (f, k) = kept (ltZ (at s i) a) a (at s i) r fa fb e in
+      (f, λ z. ap (leZ z) k ∙ least-tells z a (at s i) ∙ all-after (leZ z a) (t z) (leZ z (at s i)) i (λ k. leZ z (at s k)) (h z) refl)
 
-pub greatest-next : (s : List ℤ) (i : ℕ) (a r : ℤ) → SFits w32 a → SFits w32 (at s i) → leZ a (pos 32767) ≡ allBelow i (high s) → r ≡ cond (ltZ a (at s i)) (at s i) a
-    → SFits w32 (toZ w32 (ofZ w32 r)) × (leZ (toZ w32 (ofZ w32 r)) (pos 32767) ≡ allBelow (i + 1) (high s))
-greatest-next s i a r fa fb h e =
-    let (f, k) = kept (ltZ a (at s i)) a (at s i) r fa fb e in
-    (f, ap (λ z. leZ z (pos 32767)) k ∙ greatest-tells (pos 32767) a (at s i) ∙ ap (λ t. t && high s i) h ∙ all-next i (high s))
+  pub greatest-next : ((z : ℤ) → leZ a z ≡ t z && allBelow i (λ k. leZ (at s k) z)) → r ≡ cond (ltZ a (at s i)) (at s i) a
+      → SFits w32 (toZ w32 (ofZ w32 r)) × ((z : ℤ) → leZ (toZ w32 (ofZ w32 r)) z ≡ t z && allBelow (i + 1) (λ k. leZ (at s k) z))
+  greatest-next h e =
+      let (f, k) = kept (ltZ a (at s i)) a (at s i) r fa fb e in
+      (f, λ z. ap (λ y. leZ y z) k ∙ greatest-tells z a (at s i) ∙ all-after (leZ a z) (t z) (leZ (at s i) z) i (λ k. leZ (at s k) z) (h z) refl)
+
+-- a list lies between two numbers around 0 where its span does
+pub lies : (s : List ℤ) (low high : ℤ) (x r : Span) → leZ low (pos 0) ≡ true → leZ (pos 0) high ≡ true → (x .low ≡ pos 0) × (x .high ≡ pos 0)
+    → leZ low (r .low) ≡ leZ low (x .low) && allOf (leZ low) s → leZ (r .high) high ≡ leZ (x .high) high && allOf (λ z. leZ z high) s
+    → leZ low (r .low) && leZ (r .high) high ≡ allOf (λ z. leZ low z && leZ z high) s
+lies s low high x r p q (e, f) l h =
+    ap₂ _&&_ (l ∙ ap (λ t. t && allOf (leZ low) s) (ap (leZ low) e ∙ p)) (h ∙ ap (λ t. t && allOf (λ z. leZ z high) s) (ap (λ z. leZ z high) f ∙ q))
+    ∙ all-both (length s) (λ k. leZ low (at s k)) (λ k. leZ (at s k) high)
+
+-- the test of a list is that of each of its numbers
+pub in-range-all : (s : List ℤ) → allOf inRange s ≡ allInRange s
+in-range-all s =
+    same-test (allOf inRange s) (allInRange s) (λ t. true-T _ (all-true s (λ k h. tests.all-at (length s) (λ k. inRange (at s k)) (T-true _ t) k h)))
+    (λ t. true-T _ (all-of (length s) (λ k. inRange (at s k)) (λ k h. all-at s k (T-true (allInRange s) t))))

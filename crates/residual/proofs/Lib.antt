@@ -3,6 +3,7 @@ pub mod Agreement
 pub mod Extents
 pub mod Halfway
 pub mod InRange
+pub mod Quads
 pub mod Rooms
 pub mod Squares
 pub mod Transform

@@ -3,6 +3,7 @@ use mathlib.Core.Path.{_≡_, refl, sym, ap, _∙_}
 use mathlib.Core.Bool.{Bool, true, false, cond, _&&_}
 use mathlib.Core.List.{List, [], _∷_}
 use Prim.Native.Nat.{ℕ, _+_, _-_, _*_, _/_, _%_, _<_, _≤_}
+use native.Mathlib.Decide.{ℕ-discrete}
 use native.Mathlib.Nat.{mul-le-mul-right}
 use native.Mathlib.Omega.{arith}
 use borrow.Author.Tests.{eq-eqb, eqb-true, le-leb, leb-true}
@@ -12,12 +13,13 @@ use lib.ListN.{length}
 use Rattle.laws.specs.Answer.{_unless_, answer, written}
 use Rattle.laws.specs.Range.{at}
 use Rattle.laws.specs.Table.{table, allBlocks}
-use Rattle.laws.proofs.Answers.{holds, kept, put}
+use Rattle.laws.proofs.Answers.{holds, passes, refused, put}
 use Rattle.laws.proofs.Blockwise.{number-in}
 use Rattle.laws.proofs.Tables.{length-table}
 use Rattle.laws.proofs.Tests.{not-both, no-from, and-left, and-right, and-both, and-of, all-at}
-use Rattle.residual.specs.Inverse.{inverseAnswer, blocksAnswer}
+use Rattle.residual.specs.Inverse.{inverseAnswer}
 use Rattle.residual.specs.Numbers.{inRange, allInRange}
+use Rattle.residual.specs.Quads.{markAnswer, blocksAnswer}
 use Rattle.residual.specs.Reconstruct.{rowsIn, intoRoom, sumsRoom, sumsAnswer}
 use Rattle.residual.proofs.InRange.{all-true}
 use Rattle.residual.proofs.InRange as in-range
@@ -92,28 +94,49 @@ sums-array n good a b h e f = rw (le-leb n 64 h, eq-eqb (length a) n e, eq-eqb (
 pub inverse-array : (n : ℕ) (good : List ℤ → Bool) (d : List ℤ) → length d ≡ n → inverseAnswer n good d n ≡ answer (8 unless good d ∷ [])
 inverse-array n good d e = rw (eq-eqb (length d) n e, eq-eqb n n refl)
 
--- ---- the blocks of a list: one out of range may have a number out of range, which is found first, and in the end neither passes
-module _ (n : ℕ) (good : List ℤ → Bool) (some : 0 < n) (numbers : (d : List ℤ) → length d ≡ n → good d ≡ true → allInRange d ≡ true) (l : List ℤ)
-    {places r : ℕ} {b : Bool} (e : r ≡ blocksAnswer n l places) (t : b ≡ written r false (allBlocks n good l)) where
-  module _ (whole : length l % n ≡ 0) (room : length l ≡ places) where
-    blocks-numbers : allBlocks n good l ≡ true → allInRange l ≡ true
-    blocks-numbers g =
-        all-true l (λ k h.
-        let p = number-in n l k some whole h in
-        let block = table n (λ i. at l (n * (k / n) + i)) in
-        ap inRange (p .1) ∙ in-range.all-at block (k % n) (numbers block (length-table (pos 0) n _) (all-at (length l / n) _ g (k / n) (p .0))))
+-- ---- the blocks of a list that are all in range have their numbers in range
+pub blocks-numbers : (n : ℕ) (good : List ℤ → Bool) → 0 < n → ((d : List ℤ) → length d ≡ n → good d ≡ true → allInRange d ≡ true)
+    → (l : List ℤ) → length l % n ≡ 0 → allBlocks n good l ≡ true → allInRange l ≡ true
+blocks-numbers n good some numbers l whole g =
+    all-true l (λ k h.
+    let p = number-in n l k some whole h in
+    let block = table n (λ i. at l (n * (k / n) + i)) in
+    ap inRange (p .1) ∙ in-range.all-at block (k % n) (numbers block (length-table (pos 0) n _) (all-at (length l / n) _ g (k / n) (p .0))))
 
-    found : r ≡ answer (8 unless allInRange l ∷ [])
-    found = e ∙ rw (eq-eqb (length l % n) 0 whole, eq-eqb (length l) places room)
+-- ---- the marks of a list's quads, made before its blocks: r is what is answered for the lengths, and b tells of the numbers
+module _ (l : List ℤ) (marks : ℕ) {r : ℕ} {b : Bool} (e : r ≡ markAnswer (length l) marks) (t : b ≡ written r false (allInRange l)) where
+  pub answered : (places : ℕ) → length l ≡ places → r ≡ blocksAnswer l places marks
+  answered places long = e ∙ sym (holds 2 (2 unless eqb (length l % 64) 0 ∷ 2 unless eqb (length l / 64) marks ∷ []) (eq-eqb (length l) places long))
 
-    pub blocks-told : (b ≡ allBlocks n good l) × (b ≡ true → r ≡ 0)
-    blocks-told = go (allInRange l) refl
-      where
-        go : (a : Bool) → allInRange l ≡ a → (b ≡ allBlocks n good l) × (b ≡ true → r ≡ 0)
-        go true a = let z : r ≡ 0 = found ∙ rw a in (t ∙ put _ _ z, λ _. z)
-        go false a =
-            let no : b ≡ false = t ∙ kept 7 _ _ (found ∙ rw a) in
-            (no ∙ sym (no-from (allBlocks n good l) blocks-numbers (λ g. not-both g a)), λ h. absurd (not-both h no))
+  -- where the numbers pass, the lengths do
+  pub marked : b ≡ true → (r ≡ 0) × (allInRange l ≡ true)
+  marked g = go (ℕ-discrete r 0)
+    where
+      go : Dec (r ≡ 0) → (r ≡ 0) × (allInRange l ≡ true)
+      go (yes z) = (z, sym (put false (allInRange l) z) ∙ sym t ∙ g)
+      go (no z) = absurd (not-both g (t ∙ refused r false (allInRange l) z))
+
+  pub whole : r ≡ 0 → (length l % 64 ≡ 0) × (length l / 64 ≡ marks)
+  whole z =
+      let p = passes 1 (eqb (length l % 64) 0) (2 unless eqb (length l / 64) marks ∷ []) (sym e ∙ z) in
+      (eqb-true (length l % 64) 0 (p .0), eqb-true (length l / 64) marks (passes 1 (eqb (length l / 64) marks) [] (p .1) .0))
+
+  -- where they do not, neither do the blocks, and nothing is put
+  pub unmarked : (n : ℕ) (good : List ℤ → Bool) → 0 < n → ((d : List ℤ) → length d ≡ n → good d ≡ true → allInRange d ≡ true) → (length l % 64 ≡ 0 → length l % n ≡ 0)
+      → (old new : List ℤ) → b ≡ false → (b ≡ written r false (allBlocks n good l)) × (old ≡ written r old (cond (allInRange l) new old))
+  unmarked n good some numbers more old new g = go (ℕ-discrete r 0)
+    where
+      go : Dec (r ≡ 0) → (b ≡ written r false (allBlocks n good l)) × (old ≡ written r old (cond (allInRange l) new old))
+      go (yes z) =
+          let out : allInRange l ≡ false = sym (put false (allInRange l) z) ∙ sym t ∙ g in (
+            g ∙ sym (no-from (allBlocks n good l) (blocks-numbers n good some numbers l (more (whole z .0))) (λ h. not-both h out)) ∙ sym (put false (allBlocks n good l) z),
+            sym (put old (cond (allInRange l) new old) z ∙ ap (λ t. cond t new old) out),
+          )
+      go (no z) = (g ∙ sym (refused r false (allBlocks n good l) z), sym (refused r old (cond (allInRange l) new old) z))
+
+-- the lengths that pass
+pub blocks-pass : (l : List ℤ) (places marks : ℕ) → length l ≡ places → length l ≡ 64 * marks → blocksAnswer l places marks ≡ 0
+blocks-pass l places marks e f = rw (eq-eqb (length l) places e, eq-eqb (length l % 64) 0 (omega arith), eq-eqb (length l / 64) marks (omega arith))
 
 -- a list copied into one of its own length
 pub copied : {r : ℕ} {out : List ℤ} (l old : List ℤ) → length l ≡ length old → r ≡ answer (2 unless eqb (length l) (length old) ∷ []) → out ≡ written r old l

@@ -1,7 +1,7 @@
 -- The transformation of residual 4x4 blocks, clause 8.5.12.2: rows, then columns, then rounding. `shrZ z (2 ^ n)` is z >> n, which rounds down.
 use mathlib.Core.Bool.{Bool, _&&_}
 use mathlib.Core.List.{List, [], _∷_}
-use Prim.Native.Nat.{ℕ, _+_, _*_, _%_}
+use Prim.Native.Nat.{ℕ, _+_, _*_}
 use lib.Dec.{eqb}
 use lib.IntN.{ℤ, pos, _+ℤ_, _-ℤ_}
 use lib.ListN.{length}
@@ -9,7 +9,7 @@ use lib.Signed.{shrZ}
 use Rattle.laws.specs.Answer.{_unless_, answer}
 use Rattle.laws.specs.Range.{at}
 use Rattle.laws.specs.Table.{allBelow, blockOf}
-use Rattle.residual.specs.Numbers.{inRange, allInRange, lastInRange}
+use Rattle.residual.specs.Numbers.{inRange, lastInRange}
 
 -- ---- the one-dimensional transformation of four numbers, of a row and of a column
 -- e from d in a row, g from f in a column
@@ -58,7 +58,3 @@ module _ (d : List ℤ) where
 -- one that puts the residuals of a block of n coefficients into a list, by whether the block is in range: 2 for another length, 8 for a block out of range
 abbrev pub inverseAnswer : ℕ → (List ℤ → Bool) → List ℤ → ℕ → ℕ
 inverseAnswer n good d places = answer (2 unless eqb (length d) n ∷ 2 unless eqb places n ∷ 8 unless good d ∷ [])
-
--- one that puts those of each n numbers of a list: 2 for other lengths, 8 for a number out of range
-abbrev pub blocksAnswer : ℕ → List ℤ → ℕ → ℕ
-blocksAnswer n l places = answer (2 unless eqb (length l % n) 0 ∷ 2 unless eqb (length l) places ∷ 8 unless allInRange l ∷ [])

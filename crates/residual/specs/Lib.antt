@@ -4,5 +4,6 @@ pub mod Extents
 pub mod Fits4x4
 pub mod Inverse
 pub mod Numbers
+pub mod Quads
 pub mod Reconstruct
 pub mod inner

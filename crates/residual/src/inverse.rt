@@ -1,25 +1,33 @@
 // The transformation of residual 4x4 blocks (clause 8.5.12.2).
 ghost use mathlib.Core.Path.{_≡_};
-ghost use mathlib.Core.Bool.{true, false, _&&_};
+ghost use mathlib.Core.Bool.{true, false, cond, _&&_};
 ghost use mathlib.Core.List.{List, [], _∷_, _++_};
 ghost use Prim.Native.Nat.{_+_, _*_, _%_, _≤_, _<_};
 ghost use lib.IntN.{ℤ, pos};
 ghost use lib.ListN.{length, drop, replicate};
+ghost use lib.Signed.{leZ};
 ghost use Rattle.laws.specs.Answer.{_unless_, answer, written};
 ghost use Rattle.laws.specs.Range.{Within, AllWithin, at};
-ghost use Rattle.laws.specs.Table.{onto, blockwise, allBlocks};
+ghost use Rattle.laws.specs.Table.{onto, blockwise, allBelow, allBlocks};
 ghost use Rattle.residual.specs.Extents.{held, allOfFour};
 ghost use Rattle.residual.specs.Fits4x4.{Fits4x4};
-ghost use Rattle.residual.specs.Inverse.{oneDimensional, rounded, fRow, inverse4x4, inRange4x4, inverseAnswer, blocksAnswer};
-ghost use Rattle.residual.specs.Numbers.{inRange, allInRange, lastInRange};
+ghost use Rattle.residual.specs.Inverse.{oneDimensional, rounded, fRow, inverse4x4, inRange4x4, inverseAnswer};
+ghost use Rattle.residual.specs.Numbers.{inRange, allInRange, isZero, lastInRange};
+ghost use Rattle.residual.specs.Quads.{codedQuads, markAnswer, blocksAnswer};
+ghost use Rattle.residual.specs.inner.Quads.{quadInverse, quadInRange, OnlyFirsts};
 ghost use Rattle.residual.specs.inner.Sums.{placeIn};
 use super::extent::Extent;
 use super::extent::holds;
 use super::extent::no_extent;
 use super::extent::with_four;
 use super::extent::with_last_four;
+use super::numbers::Span;
 use super::numbers::all_in_range;
+use super::numbers::fill_all;
+use super::numbers::lies_in;
+use super::numbers::no_span;
 use super::numbers::widen_all;
+use super::numbers::with_list;
 
 pub struct Residual4x4 {
     pub answer: u32,
@@ -68,29 +76,30 @@ pub(crate) fn invert_one(d: &[i32], out: &mut [i16]) -> bool
     invert_all(d, out)
 }
 
-// What a call on the blocks of a list says: what it is refused for, lengths or a number, and where it is not whether every block is in range.
+// What a call on the quads of a list says: whether its lengths are refused, and where they are not whether what it was to look at is in range.
 pub struct Blocks {
     pub answer: u32,
     pub in_range: bool,
 }
 
-// The residuals of each sixteen numbers of a list, at the same places, for callers that refuse where a block is out of range. Residuals have sixteen bits, so
-// that nobody need ask for their range again.
-pub fn inverse_blocks(list: &[i32], out: &mut [i16]) -> Blocks
-    ensures { λ r. ⌜ r .answer ≡ blocksAnswer 16 (now (list .entry)) (length (now (out .entry))) ⌝ }
+// The residuals of each sixteen numbers of a list, at the same places, for callers that refuse where a block is out of range; and for each quad, 64 numbers
+// that are four blocks, whether it has a coefficient. Where a number is out of range none is made. Residuals have sixteen bits, so that nobody need ask for
+// their range again.
+pub fn inverse_blocks(list: &[i32], out: &mut [i16], coded: &mut [u8]) -> Blocks
+    ensures { λ r. ⌜ r .answer ≡ blocksAnswer (now (list .entry)) (length (now (out .entry))) (length (now (coded .entry))) ⌝ }
     ensures { λ r. ⌜ r .«in_range» ≡ written (r .answer) false (allBlocks 16 inRange4x4 (now (list .entry))) ⌝ }
-    ensures { λ r. ⌜ now (out .exit) ≡ written (r .answer) (now (out .entry)) (blockwise 16 inverse4x4 (now (list .entry))) ⌝ }
+    ensures { λ r. ⌜ now (out .exit) ≡ written (r .answer) (now (out .entry))
+        (cond (allInRange (now (list .entry))) (blockwise 16 inverse4x4 (now (list .entry))) (now (out .entry))) ⌝ }
+    ensures { λ r. ⌜ now (coded .exit) ≡ written (r .answer) (now (coded .entry)) (codedQuads (now (list .entry))) ⌝ }
 {
-    if list.len() % 16 != 0 {
-        return refused(2);
-    }
     if list.len() != out.len() {
         return refused(2);
     }
-    if !all_in_range(list) {
-        return refused(8);
+    let marked = mark_coded(list, coded);
+    if !marked.in_range {
+        return marked;
     }
-    let in_range = invert_all(list, out);
+    let in_range = invert_quads(list, out, coded);
     Blocks {
         answer: 0,
         in_range,
@@ -105,6 +114,145 @@ pub fn refused(answer: u32) -> Blocks
         answer,
         in_range: false,
     }
+}
+
+// Marks the quads of a list that have a coefficient, and says whether every number is in range: one look at each number.
+pub fn mark_coded(list: &[i32], coded: &mut [u8]) -> Blocks
+    ensures { λ r. ⌜ r .answer ≡ markAnswer (length (now (list .entry))) (length (now (coded .entry))) ⌝ }
+    ensures { λ r. ⌜ r .«in_range» ≡ written (r .answer) false (allInRange (now (list .entry))) ⌝ }
+    ensures { λ r. ⌜ now (coded .exit) ≡ written (r .answer) (now (coded .entry)) (codedQuads (now (list .entry))) ⌝ }
+{
+    if list.len() % 64 != 0 {
+        return refused(2);
+    }
+    if list.len() / 64 != coded.len() {
+        return refused(2);
+    }
+    let in_range = mark_quads(list, coded);
+    Blocks {
+        answer: 0,
+        in_range,
+    }
+}
+
+fn mark_quads(list: &[i32], coded: &mut [u8]) -> bool
+    requires { ⌜ length (now list) ≡ 64 * length (now coded) ⌝ }
+    ensures { λ r. ⌜ r ≡ allInRange (now (list .entry)) ⌝ }
+    ensures { λ _. ⌜ now (coded .exit) ≡ codedQuads (now (list .entry)) ⌝ }
+{
+    let n = coded.len();
+    let mut good = true;
+    for q in 0..n {
+        let x = with_list(no_span(), &list[64 * q..64 * q + 64]);
+        coded[q] = mark_of(x);
+        good = both(good, lies_in(x, -32768, 32767));
+    }
+    good
+}
+
+// 0 where all numbers are 0, else 1.
+fn mark_of(x: Span) -> u8
+    ensures { λ r. ⌜ r ≡ cond (leZ (pos 0) (x .low) && leZ (x .high) (pos 0)) 0 1 ⌝ }
+{
+    if lies_in(x, 0, 0) { 0 } else { 1 }
+}
+
+// Both of two tests, without a way out at the first.
+pub fn both(p: bool, q: bool) -> bool
+    ensures { λ r. ⌜ r ≡ (p && q) ⌝ }
+{
+    if p { q } else { false }
+}
+
+// The residuals of a list that passes, quad by quad, and whether every block is in range.
+fn invert_quads(list: &[i32], out: &mut [i16], coded: &[u8]) -> bool
+    requires { ⌜ (length (now list) ≡ 64 * length (now coded)) × (length (now list) ≡ length (now out)) × (allInRange (now list) ≡ true) ⌝ }
+    requires { ⌜ now coded ≡ codedQuads (now list) ⌝ }
+    ensures { λ r. ⌜ r ≡ allBlocks 16 inRange4x4 (now (list .entry)) ⌝ }
+    ensures { λ _. ⌜ now (out .exit) ≡ blockwise 16 inverse4x4 (now (list .entry)) ⌝ }
+{
+    let n = coded.len();
+    if dense(list, n) {
+        return invert_all(list, out);
+    }
+    let mut good = true;
+    for q in 0..n {
+        let some = coded[q] != 0;
+        good = both(good, invert_quad(some, &list[64 * q..], &mut out[64 * q..]));
+    }
+    good
+}
+
+// A guess that no quad has an easy form, by two of the coefficients that come first in the scan. Where it holds all blocks are made in one loop.
+fn dense(list: &[i32], n: usize) -> bool
+    requires { ⌜ length (now list) ≡ 64 * n ⌝ }
+{
+    for q in 0..n {
+        if list[64 * q + 1] == 0 {
+            if list[64 * q + 4] == 0 {
+                return false;
+            }
+        }
+    }
+    true
+}
+
+// The residuals of the first 64 numbers of a list over the first 64 places of `out`, and whether their four blocks are in range. Where no number but the
+// first of each block is other than 0 the residuals of a block are equal, and where none is they are 0.
+fn invert_quad(some: bool, d: &[i32], out: &mut [i16]) -> bool
+    requires { ⌜ (64 ≤ length (now d)) × (64 ≤ length (now out)) × (allInRange (now d) ≡ true) × (some ≡ false → allBelow 64 (λ k. isZero (at (now d) k)) ≡ true) ⌝ }
+    ensures { λ r. ⌜ r ≡ quadInRange (now (d .entry)) ⌝ }
+    ensures { λ _. ⌜ now (out .exit) ≡ quadInverse (now (d .entry)) ++ drop 64 (now (out .entry)) ⌝ }
+{
+    if !some {
+        fill_all(0, &mut out[..64]);
+        return true;
+    }
+    if only_firsts(d) {
+        return flatten(d, out);
+    }
+    invert_all(&d[..64], &mut out[..64])
+}
+
+// Whether no number but the first of each block is other than 0. The two that are looked at first are those most likely to be.
+fn only_firsts(d: &[i32]) -> bool
+    requires { ⌜ 64 ≤ length (now d) ⌝ }
+    ensures { λ r. ⌜ (r ≡ true → OnlyFirsts 16 (now (d .entry))) ⌝ }
+{
+    if d[1] != 0 {
+        return false;
+    }
+    if d[4] != 0 {
+        return false;
+    }
+    let mut x = no_span();
+    for b in 0..4 {
+        x = with_list(x, &d[16 * b + 1..16 * b + 16]);
+    }
+    lies_in(x, 0, 0)
+}
+
+// The same as `invert_quad` of such numbers.
+fn flatten(d: &[i32], out: &mut [i16]) -> bool
+    requires { ⌜ (64 ≤ length (now d)) × (64 ≤ length (now out)) × (allInRange (now d) ≡ true) × OnlyFirsts 16 (now d) ⌝ }
+    ensures { λ r. ⌜ r ≡ quadInRange (now (d .entry)) ⌝ }
+    ensures { λ _. ⌜ now (out .exit) ≡ quadInverse (now (d .entry)) ++ drop 64 (now (out .entry)) ⌝ }
+{
+    let mut good = true;
+    for b in 0..4 {
+        good = both(good, flat(d[16 * b], &mut out[16 * b..]));
+    }
+    good
+}
+
+// Sixteen equal residuals of a coefficient over the first places of `out`, and whether it is not too high.
+fn flat(v: i32, out: &mut [i16]) -> bool
+    requires { ⌜ (16 ≤ length (now out)) × Within 32768 v ⌝ }
+    ensures { λ r. ⌜ r ≡ leZ v (pos 32735) ⌝ }
+    ensures { λ _. ⌜ now (out .exit) ≡ replicate 16 (rounded v) ++ drop 16 (now (out .entry)) ⌝ }
+{
+    fill_all(round(v), &mut out[..16]);
+    v <= 32735
 }
 
 // The residuals of a list that passes, and whether every block is in range.

@@ -400,7 +400,7 @@ fn sum_at(res: &[i16], k: usize, pred: &[u8], p: usize, x: usize) -> u8
 }
 
 // The clipped sum of a sample and a residual.
-fn sum_of(p: u8, r: i16) -> u8
+pub fn sum_of(p: u8, r: i16) -> u8
     ensures { λ s. ⌜ s ≡ Clip1 (pos p +ℤ r) ⌝ }
 {
     clip_u8(p as i32 + r as i32)

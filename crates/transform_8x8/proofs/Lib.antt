@@ -2,6 +2,7 @@
 pub mod Bounded
 pub mod Columns
 pub mod Eights
+pub mod Firsts
 pub mod Flat
 pub mod Halfway
 pub mod Words

@@ -123,7 +123,7 @@ fn put_column(out: &mut [i16], j: usize, m: [i32; 8])
 }
 
 // A number of the second pass, rounded to a residual.
-fn round(m: i32) -> i16
+pub(crate) fn round(m: i32) -> i16
     requires { ⌜ Within 1782272 m ⌝ }
     ensures { λ r. ⌜ r ≡ rounded m ⌝ }
 {

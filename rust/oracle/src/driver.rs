@@ -1,7 +1,9 @@
 //! A driver over whole pictures that calls the Rust's routines and the 8x8 inverse: the rules' checks in their order, then the macroblock.
 //!
 //! It comes in forms for the benchmark. `CHECKS` says whether refusals 6 to 8 are looked for. `SHORT` gives blocks whose only coefficient is
-//! the first, or which have none, one residual for all samples, which needs no inverse; an 8x8 block without any keeps its prediction.
+//! the first, or which have none, one residual for all samples, which needs no inverse; a block without any keeps its prediction. `MADE` says that the
+//! numbers are residuals already: where coefficients are not so near 0 that they must be in range, all are transformed before one sample is put, and their
+//! range is found on the way.
 use crate::inverse_8x8::inverse_8x8;
 use crate::predict::{self, I16Mode, CHROMA_4X4_SCAN_XY, LUMA_4X4_SCAN_XY};
 use crate::rules::{self, Marks};
@@ -159,26 +161,50 @@ fn macroblock_as<const CHECKS: bool, const SHORT: bool>(
         if !permitted(kind, modes, chroma_mode, n) {
             return 7;
         }
-        if rules::all_transformable(kind, numbers).is_err() {
-            return 8;
+        if !rules::all_surely_in_range(kind, numbers) {
+            return match rules::all_residuals(kind, numbers) {
+                Ok(res) => put_all::<SHORT, true>([luma, cb, cr], (x, y), n, kind, modes, chroma_mode, &res),
+                Err(refusal) => refusal,
+            };
         }
     }
+    put_all::<SHORT, false>([luma, cb, cr], (x, y), n, kind, modes, chroma_mode, numbers)
+}
+
+/// All blocks of a macroblock that is not refused.
+fn put_all<const SHORT: bool, const MADE: bool>(
+    [luma, cb, cr]: [&mut Plane; 3],
+    (x, y): (usize, usize),
+    n: Near,
+    kind: u8,
+    modes: &[u8],
+    chroma_mode: u8,
+    numbers: &[i32],
+) -> u32 {
     match kind {
-        0 => blocks_4x4::<SHORT>(luma, x, y, n, modes, numbers),
-        1 => blocks_8x8::<SHORT>(luma, x, y, n, modes, numbers),
-        _ => block_16x16::<SHORT>(luma, x, y, n, modes[0], numbers),
+        0 => blocks_4x4::<SHORT, MADE>(luma, x, y, n, modes, numbers),
+        1 => blocks_8x8::<SHORT, MADE>(luma, x, y, n, modes, numbers),
+        _ => block_16x16::<SHORT, MADE>(luma, x, y, n, modes[0], numbers),
     }
-    chroma::<SHORT>(cb, x, y, n, chroma_mode, &numbers[256..320]);
-    chroma::<SHORT>(cr, x, y, n, chroma_mode, &numbers[320..384]);
+    chroma::<SHORT, MADE>(cb, x, y, n, chroma_mode, &numbers[256..320]);
+    chroma::<SHORT, MADE>(cr, x, y, n, chroma_mode, &numbers[320..384]);
     0
 }
 
 /// A 4x4 block's prediction and residual into the plane.
-fn reconstruct<const SHORT: bool>(deq: &[i32], pred: &[u8], p_off: usize, p_stride: usize, p: &mut Plane, at: usize) {
-    let deq: &[i32; 16] = deq.try_into().unwrap();
-    match flat_residual::<SHORT>(deq) {
+fn reconstruct<const SHORT: bool, const MADE: bool>(numbers: &[i32], pred: &[u8], p_off: usize, p_stride: usize, p: &mut Plane, at: usize) {
+    let numbers: &[i32; 16] = numbers.try_into().unwrap();
+    if MADE {
+        return predict::add_residual_4x4_into(numbers, pred, p_off, p_stride, p.samples, at, p.stride);
+    }
+    match flat_residual::<SHORT>(numbers) {
+        Some(0) => {
+            for r in 0..4 {
+                p.samples[at + r * p.stride..][..4].copy_from_slice(&pred[p_off + r * p_stride..][..4]);
+            }
+        }
         Some(flat) => predict::reconstruct_4x4_dc_into(flat, pred, p_off, p_stride, p.samples, at, p.stride),
-        None => predict::reconstruct_4x4_into(deq, pred, p_off, p_stride, p.samples, at, p.stride),
+        None => predict::reconstruct_4x4_into(numbers, pred, p_off, p_stride, p.samples, at, p.stride),
     }
 }
 
@@ -188,11 +214,14 @@ fn flat_residual<const SHORT: bool>(deq: &[i32]) -> Option<i32> {
 }
 
 /// An 8x8 block's prediction and residual.
-fn sums_8x8<const SHORT: bool>(deq: &[i32; 64], pred: [u8; 64]) -> [u8; 64] {
-    match flat_residual::<SHORT>(deq) {
+fn sums_8x8<const SHORT: bool, const MADE: bool>(numbers: &[i32; 64], pred: [u8; 64]) -> [u8; 64] {
+    if MADE {
+        return predict::add_residual_8x8(numbers, &pred.map(i32::from));
+    }
+    match flat_residual::<SHORT>(numbers) {
         Some(0) => pred,
         Some(flat) => pred.map(|v| predict::clip_u8(i32::from(v) + flat)),
-        None => predict::add_residual_8x8(&inverse_8x8(deq), &pred.map(i32::from)),
+        None => predict::add_residual_8x8(&inverse_8x8(numbers), &pred.map(i32::from)),
     }
 }
 
@@ -261,7 +290,7 @@ fn corner(p: &Plane, at: usize, there: bool) -> u8 {
     }
 }
 
-fn blocks_4x4<const SHORT: bool>(p: &mut Plane, x: usize, y: usize, n: Near, modes: &[u8], numbers: &[i32]) {
+fn blocks_4x4<const SHORT: bool, const MADE: bool>(p: &mut Plane, x: usize, y: usize, n: Near, modes: &[u8], numbers: &[i32]) {
     for (k, &(bx, by)) in LUMA_4X4_SCAN_XY.iter().enumerate() {
         let m = marks(bx, by, n);
         let right = match k {
@@ -274,11 +303,11 @@ fn blocks_4x4<const SHORT: bool>(p: &mut Plane, x: usize, y: usize, n: Near, mod
         let top = above::<8>(p, at, m.above, right);
         let column = left::<4>(p, at, m.left);
         let pred = predict::intra4x4_pred(modes[k], m.above, m.left, &top, &column, corner(p, at, m.corner));
-        reconstruct::<SHORT>(&numbers[16 * k..][..16], &pred, 0, 4, p, at);
+        reconstruct::<SHORT, MADE>(&numbers[16 * k..][..16], &pred, 0, 4, p, at);
     }
 }
 
-fn blocks_8x8<const SHORT: bool>(p: &mut Plane, x: usize, y: usize, n: Near, modes: &[u8], numbers: &[i32]) {
+fn blocks_8x8<const SHORT: bool, const MADE: bool>(p: &mut Plane, x: usize, y: usize, n: Near, modes: &[u8], numbers: &[i32]) {
     for k in 0..4 {
         let (bx, by) = (k % 2, k / 2);
         let m = marks(bx, by, n);
@@ -287,31 +316,31 @@ fn blocks_8x8<const SHORT: bool>(p: &mut Plane, x: usize, y: usize, n: Near, mod
         let top = above::<16>(p, at, m.above, right);
         let column = left::<8>(p, at, m.left);
         let pred = predict::intra8x8_pred(modes[k], m.above, m.left, m.corner, &top, &column, corner(p, at, m.corner));
-        let block = sums_8x8::<SHORT>(numbers[64 * k..][..64].try_into().unwrap(), pred);
+        let block = sums_8x8::<SHORT, MADE>(numbers[64 * k..][..64].try_into().unwrap(), pred);
         for (r, row) in block.chunks_exact(8).enumerate() {
             p.samples[at + r * p.stride..][..8].copy_from_slice(row);
         }
     }
 }
 
-fn block_16x16<const SHORT: bool>(p: &mut Plane, x: usize, y: usize, n: Near, mode: u8, numbers: &[i32]) {
+fn block_16x16<const SHORT: bool, const MADE: bool>(p: &mut Plane, x: usize, y: usize, n: Near, mode: u8, numbers: &[i32]) {
     let at = y * 16 * p.stride + x * 16;
     let top: [u8; 16] = if n.b { p.samples[at - p.stride..][..16].try_into().unwrap() } else { [0; 16] };
     let column = left::<16>(p, at, n.a);
     let pred = predict::luma16x16_pred(I16Mode::from_id(mode as u32), n.b, n.a, &top, &column, corner(p, at, n.d));
     for (k, &(bx, by)) in LUMA_4X4_SCAN_XY.iter().enumerate() {
         let to = at + by * 4 * p.stride + bx * 4;
-        reconstruct::<SHORT>(&numbers[16 * k..][..16], &pred, by * 64 + bx * 4, 16, p, to);
+        reconstruct::<SHORT, MADE>(&numbers[16 * k..][..16], &pred, by * 64 + bx * 4, 16, p, to);
     }
 }
 
-fn chroma<const SHORT: bool>(p: &mut Plane, x: usize, y: usize, n: Near, mode: u8, numbers: &[i32]) {
+fn chroma<const SHORT: bool, const MADE: bool>(p: &mut Plane, x: usize, y: usize, n: Near, mode: u8, numbers: &[i32]) {
     let at = y * 8 * p.stride + x * 8;
     let top: [u8; 8] = if n.b { p.samples[at - p.stride..][..8].try_into().unwrap() } else { [0; 8] };
     let column = left::<8>(p, at, n.a);
     let pred = predict::chroma8x8_pred(mode, n.b, n.a, &top, &column, corner(p, at, n.d));
     for (k, &(bx, by)) in CHROMA_4X4_SCAN_XY.iter().enumerate() {
         let to = at + by * 4 * p.stride + bx * 4;
-        reconstruct::<SHORT>(&numbers[16 * k..][..16], &pred, by * 32 + bx * 4, 8, p, to);
+        reconstruct::<SHORT, MADE>(&numbers[16 * k..][..16], &pred, by * 32 + bx * 4, 8, p, to);
     }
 }

@@ -123,38 +123,59 @@ pub fn in_range(d: &[i32]) -> bool {
     }
 }
 
-/// The same of coefficients that are in range themselves, as fast as it was found to go: of each pass only the values that tell of all others are looked
-/// at, by the least and the greatest of them.
-pub fn quickly_in_range(d: &[i32]) -> bool {
+/// The residuals of coefficients that are in range themselves, and whether every value on the way is, as fast as it was found to go: of each pass only
+/// the values that tell of all others are looked at, by the least and the greatest of them, while they are at hand.
+pub fn residuals(d: &[i32], out: &mut [i32]) -> bool {
     let mut reach = Reach::default();
     match d.len() {
-        16 => {
-            let rows: [[i32; 4]; 4] = std::array::from_fn(|i| {
-                let [_, f] = line_4(std::array::from_fn(|j| d[4 * i + j]));
-                reach.inside(&f);
-                f
-            });
-            for j in 0..4 {
-                let [_, h] = line_4(std::array::from_fn(|i| rows[i][j]));
-                reach.after(&h);
-            }
-        }
-        _ => {
-            let rows: [[i32; 8]; 8] = std::array::from_fn(|i| {
-                let [e, _, g] = line_8(std::array::from_fn(|j| d[8 * i + j]));
-                reach.inside(&[e[1], e[3], e[5], e[7]]);
-                g
-            });
-            for j in 0..8 {
-                let column = std::array::from_fn(|i| rows[i][j]);
-                let [h, _, m] = line_8(column);
-                reach.inside(&column);
-                reach.inside(&[h[1], h[3], h[5], h[7]]);
-                reach.after(&m);
-            }
-        }
+        16 => residuals_4x4(d, out, &mut reach),
+        _ => residuals_8x8(d, out, &mut reach),
     }
-    LOW <= reach.least && reach.greatest <= HIGH && reach.last <= LAST
+    reach.fits()
+}
+
+/// The same of every block of a macroblock of this kind.
+pub fn residuals_of(kind: u8, numbers: &[i32], out: &mut [i32; 384]) -> bool {
+    let mut reach = Reach::default();
+    let luma = if kind == 1 { 256 } else { 0 };
+    for (d, res) in numbers[..luma].chunks_exact(64).zip(out[..luma].chunks_exact_mut(64)) {
+        residuals_8x8(d, res, &mut reach);
+    }
+    for (d, res) in numbers[luma..].chunks_exact(16).zip(out[luma..].chunks_exact_mut(16)) {
+        residuals_4x4(d, res, &mut reach);
+    }
+    reach.fits()
+}
+
+#[inline(always)]
+fn residuals_4x4(d: &[i32], out: &mut [i32], reach: &mut Reach) {
+    let rows: [[i32; 4]; 4] = std::array::from_fn(|i| {
+        let [_, f] = line_4(std::array::from_fn(|j| d[4 * i + j]));
+        reach.inside(&f);
+        f
+    });
+    for j in 0..4 {
+        let [_, h] = line_4(std::array::from_fn(|i| rows[i][j]));
+        reach.after(&h);
+        (0..4).for_each(|i| out[4 * i + j] = (h[i] + 32) >> 6);
+    }
+}
+
+#[inline(always)]
+fn residuals_8x8(d: &[i32], out: &mut [i32], reach: &mut Reach) {
+    let rows: [[i32; 8]; 8] = std::array::from_fn(|i| {
+        let [e, _, g] = line_8(std::array::from_fn(|j| d[8 * i + j]));
+        reach.inside(&[e[1], e[3], e[5], e[7]]);
+        g
+    });
+    for j in 0..8 {
+        let column = std::array::from_fn(|i| rows[i][j]);
+        let [h, _, m] = line_8(column);
+        reach.inside(&column);
+        reach.inside(&[h[1], h[3], h[5], h[7]]);
+        reach.after(&m);
+        (0..8).for_each(|i| out[8 * i + j] = (m[i] + 32) >> 6);
+    }
 }
 
 /// The least of some values, the greatest of those inside the passes and the greatest of those after the second.
@@ -166,6 +187,10 @@ struct Reach {
 }
 
 impl Reach {
+    fn fits(&self) -> bool {
+        LOW <= self.least && self.greatest <= HIGH && self.last <= LAST
+    }
+
     fn inside(&mut self, values: &[i32]) {
         self.least = values.iter().fold(self.least, |a, &v| a.min(v));
         self.greatest = values.iter().fold(self.greatest, |a, &v| a.max(v));

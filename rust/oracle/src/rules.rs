@@ -102,21 +102,29 @@ fn surely_in_range(deq: &[i32]) -> bool {
 
 /// What the inverse of a 4x4 or 8x8 block refuses: a number out of range, or a block that leaves the range on the way.
 pub fn transformable(deq: &[i32]) -> Result<(), u32> {
-    if surely_in_range(deq) || (lie_in(deq, LOW, HIGH) && halfway::quickly_in_range(deq)) {
+    let mut res = [0; 64];
+    if surely_in_range(deq) || (lie_in(deq, LOW, HIGH) && halfway::residuals(deq, &mut res[..deq.len()])) {
         Ok(())
     } else {
         Err(8)
     }
 }
 
-/// The same of every block of a macroblock of this kind.
-pub fn all_transformable(kind: u8, numbers: &[i32]) -> Result<(), u32> {
+/// Whether the coefficients of a macroblock of this kind are so near 0 that no value of any block can leave the range.
+pub fn all_surely_in_range(kind: u8, numbers: &[i32]) -> bool {
     let (side, near) = if kind == 1 { (64, NEAR_8X8) } else { (16, NEAR_4X4) };
-    if lie_in(numbers, -near, near) {
-        return Ok(());
-    }
     let (luma, chroma) = numbers.split_at(256);
-    luma.chunks_exact(side).chain(chroma.chunks_exact(16)).try_for_each(transformable)
+    lie_in(numbers, -near, near) || luma.chunks_exact(side).chain(chroma.chunks_exact(16)).all(surely_in_range)
+}
+
+/// The residuals of a macroblock of this kind, or 8.
+pub fn all_residuals(kind: u8, numbers: &[i32]) -> Result<[i32; 384], u32> {
+    let mut res = [0; 384];
+    if lie_in(numbers, LOW, HIGH) && halfway::residuals_of(kind, numbers, &mut res) {
+        Ok(res)
+    } else {
+        Err(8)
+    }
 }
 
 /// What a 4x4 or 8x8 predictor refuses: an unknown mode, or one that the marks do not permit.

@@ -4,7 +4,7 @@ use mathlib.Core.Path.{_≡_, refl, sym, _∙_}
 use mathlib.Core.Bool.{true}
 use mathlib.Core.List.{[]}
 use native.Mathlib.Omega.{arith}
-use borrow.Author.Tests.{not-true, not-false}
+use borrow.Author.Tests.{eqb-true, not-true, not-false}
 use lib.ListN.{length}
 use Rattle.laws.proofs.Answers.{holds, broken, refused}
 use Rattle.maps.specs.Neighbours.{marksOf}
@@ -31,7 +31,14 @@ abbrev roomed : tie.Else2 → tie.Else1
 roomed c = c .before .before
 
 abbrev fine : tie.Else3 → tie.Else2
-fine c = c .before .before .before .before
+fine c = c .before .before .before .before .before .before
+
+-- and to the call that wrote the residuals
+abbrev coded : tie.Else3 → tie.After-residuals-of
+coded c = c .before .before .before
+
+in-range : (c : tie.Else3) → coded c .residuals-of .result ≡ true
+in-range c = not-false _ (c .if3 .left)
 
 has : (c : tie.Else1) → let a = start c .args in
     rooms (a .x) (a .y) (length (a .luma .now)) (length (a .cb .now)) (length (a .cr .now)) (a .strides) (marksOf (a .marks)) ≡ true
@@ -63,31 +70,38 @@ returns-2 c =
     (r .record-answer .ensures ∙ sym (early-decide (marksOf (u .args .marks)) (given u) _ (has (r .before)) (λ h. z (r .record-answer .ensures ∙ h))), (sym (refused _ _ _ z), (sym (refused _ _ _ z), sym (refused _ _ _ z))))
 
 residuals-of-requires : tie.Need-residuals-of-requires
-residuals-of-requires c κs = (standing (c .before) .good .all, search needs)
+residuals-of-requires c κs = (standing (c .before .before) .good .all, search needs, search needs)
 
 returns-3 : tie.Need-returns-3
 unfolding numbersGood
 returns-3 c =
-    let r = c .before .before in
-    let d = r .before .before in
+    let r = c .before .before .before in
+    let d = r .before .before .before in
     let u = start (roomed d) in
     let out = sym (r .residuals-of .ensures .0) ∙ not-true _ (c .if3 .taken) in
     (sym (numbers-decide (marksOf (u .args .marks)) (given u) _ (has (roomed d)) (sym (d .before .record-answer .ensures) ∙ passed d) ∙ broken 8 [] out), (refl, (refl, refl)))
 
 luma-square-requires : tie.Need-luma-square-requires
 luma-square-requires c κs =
-    let w = standing (fine (c .before .before)) in
-    record { stands = w .squares .luma; fine = w .good .luma; sixteen = w .good .sixteen; all = search needs }
+    let f = c .before .before .before in
+    let w = standing (fine f) in
+    (record { stands = w .squares .luma; fine = w .good .luma; sixteen = w .good .sixteen; all = search needs }, coded f .residuals-of .ensures .1 .1 (in-range f))
 
 chroma-square-requires : tie.Need-chroma-square-requires
 chroma-square-requires c κs =
-    let w = standing (fine (c .before .before .before .before .before .before .before)) in
-    record { stands = w .squares .cb; fine = w .good .chroma; all = search needs; four = omega arith }
+    let f = c .before .before .before .before .before .before .before .before in
+    let w = standing (fine f) in (
+      record { stands = w .squares .cb; fine = w .good .chroma; all = search needs; four = omega arith },
+      λ z i h. coded f .residuals-of .ensures .1 .1 (in-range f) .blank 4 i (omega arith) h (eqb-true _ 0 (not-false _ z)),
+    )
 
 chroma-square-requires-2 : tie.Need-chroma-square-requires-2
 chroma-square-requires-2 c κs =
-    let w = standing (fine (c .before .before .before .before .before .before .before .before .before .before .before .before)) in
-    record { stands = w .squares .cr; fine = w .good .chroma; all = search needs; four = omega arith }
+    let f = c .before .before .before .before .before .before .before .before .before .before .before .before .before in
+    let w = standing (fine f) in (
+      record { stands = w .squares .cr; fine = w .good .chroma; all = search needs; four = omega arith },
+      λ z i h. coded f .residuals-of .ensures .1 .1 (in-range f) .blank 5 i (omega arith) h (eqb-true _ 0 (not-false _ z)),
+    )
 
 returns-4 : tie.Need-returns-4
 unfolding numbersGood
@@ -95,16 +109,15 @@ returns-4 c =
     let p₃ = c .before .before in
     let p₂ = p₃ .before .before .before .before .before in
     let p₁ = p₂ .before .before .before .before .before in
-    let f = p₁ .before .before .before in
-    let r = f .before .before in
+    let f = p₁ .before .before .before .before in
+    let r = coded f in
     let d = fine f in
     let u = start (roomed d) in
     let n = u .args .numbers .now in
     let k = firstFor (u .args .kind) in
-    let in-range = not-false _ (f .if3 .left) in
-    let T = r .residuals-of .ensures .1 in-range in
+    let T = r .residuals-of .ensures .1 .0 (in-range f) in
     let l = first-few (u .args .kind) in (
-      sym (numbers-decide (marksOf (u .args .marks)) (given u) _ (has (roomed d)) (sym (d .before .record-answer .ensures) ∙ passed d) ∙ holds 8 [] (sym (r .residuals-of .ensures .0) ∙ in-range)),
+      sym (numbers-decide (marksOf (u .args .marks)) (given u) _ (has (roomed d)) (sym (d .before .record-answer .ensures) ∙ passed d) ∙ holds 8 [] (sym (r .residuals-of .ensures .0) ∙ in-range f)),
       (p₁ .luma-square .ensures n T, (p₂ .chroma-square .ensures k n (omega arith) T, p₃ .chroma-square2 .ensures k n (omega arith) T)),
     )
 
@@ -136,6 +149,9 @@ same-length-6 c = search needs
 slice-aggregate-residuals-of : tie.Need-slice-aggregate-residuals-of
 slice-aggregate-residuals-of c = search needs
 
+slice-aggregate-residuals-of-2 : tie.Need-slice-aggregate-residuals-of-2
+slice-aggregate-residuals-of-2 c = search needs
+
 same-length-7 : tie.Need-same-length-7
 same-length-7 c = search needs
 
@@ -148,8 +164,17 @@ same-length-9 c = search needs
 slice-aggregate-luma-square : tie.Need-slice-aggregate-luma-square
 slice-aggregate-luma-square c = search needs
 
+slice-aggregate-luma-square-2 : tie.Need-slice-aggregate-luma-square-2
+slice-aggregate-luma-square-2 c = search needs
+
+array-read-in-cb : tie.Need-array-read-in-cb
+array-read-in-cb c = search needs
+
 slice-aggregate-chroma-square : tie.Need-slice-aggregate-chroma-square
 slice-aggregate-chroma-square c = search needs
+
+array-read-in-cr : tie.Need-array-read-in-cr
+array-read-in-cr c = search needs
 
 slice-aggregate-chroma-square-2 : tie.Need-slice-aggregate-chroma-square-2
 slice-aggregate-chroma-square-2 c = search needs
@@ -167,6 +192,6 @@ pub rebuild-spec : {M : Type 1} → statement M
 rebuild-spec =
     tie.close
     (tie.spec has-rooms-requires same-length same-length-2 same-length-3 returns record-answer-requires same-length-4 same-length-5 same-length-6 returns-2
-    slice-aggregate-residuals-of residuals-of-requires same-length-7 same-length-8 same-length-9 returns-3 slice-aggregate-luma-square luma-square-requires
-    slice-aggregate-chroma-square chroma-square-requires slice-aggregate-chroma-square-2 chroma-square-requires-2 same-length-10 same-length-11 same-length-12
-    returns-4)
+    slice-aggregate-residuals-of slice-aggregate-residuals-of-2 residuals-of-requires same-length-7 same-length-8 same-length-9 returns-3
+    slice-aggregate-luma-square slice-aggregate-luma-square-2 luma-square-requires array-read-in-cb slice-aggregate-chroma-square chroma-square-requires
+    array-read-in-cr slice-aggregate-chroma-square-2 chroma-square-requires-2 same-length-10 same-length-11 same-length-12 returns-4)

@@ -3,9 +3,12 @@ use mathlib.Core.Path.{_≡_}
 use mathlib.Core.Bool.{Bool, true}
 use mathlib.Core.List.{List}
 use Prim.Native.Nat.{ℕ, zero, suc, _+_, _*_, _-_, _/_, _%_, _<_, _≤_}
-use lib.IntN.{ℤ}
+use lib.Dec.{ltb}
+use lib.IntN.{ℤ, pos, _+ℤ_}
 use lib.ListN.{getD, length, replicate}
+use Rattle.laws.specs.Patch.{patch}
 use Rattle.laws.specs.Range.{at}
+use Rattle.basics.specs.Clip.{Clip1}
 use Rattle.basics.specs.Marks.{permittedChroma, modeAnswer}
 use Rattle.basics.specs.Nnz.{blkIdx}
 use Rattle.maps.specs.Neighbours.{Side}
@@ -69,6 +72,11 @@ pub record Blank (side : ℕ) (top left : List ℕ) : Type 0 where
 abbrev pub modeFine : ℕ → List ℕ → (Side → Bool) → ℕ → ℕ
 modeFine kind modes marks k = modeAnswer (lastMode kind) (permittedFor kind (sidesOf (cutFor kind .across) marks k)) (getD modes k 0)
 
+-- a mark for each 64 residuals: where it is 0, so are they
+pub record Coded (residuals : List ℤ) (coded : List ℕ) : Type 0 where
+  pub six : length coded ≡ 6
+  pub blank : (q i : ℕ) → q < 6 → i < 64 → getD coded q 0 ≡ 0 → at residuals (64 * q + i) ≡ pos 0
+
 -- a luma square stands in its plane, its modes are fine, and its lists have their lengths
 pub record LumaReady (kind : ℕ) (p : Place) (n : ℕ) (marks : Side → Bool) (modes : List ℕ) (residuals : List ℤ) : Type 0 where
   pub stands : StandsIn 16 p n (squareSides marks)
@@ -83,17 +91,19 @@ pub record ChromaReady (mode base : ℕ) (p : Place) (n : ℕ) (marks : Side →
   pub all : length residuals ≡ 384
   pub four : base + 4 ≤ 24
 
--- a 4x4 piece of a prediction that has n samples, from `off` on with rows `apart` apart
-pub record PieceIn (off apart n : ℕ) : Type 0 where
-  pub inside : off + 3 * apart + 4 ≤ n
-  pub narrow : apart ≤ 16
+-- the rows of a square of that side, `apart` apart from `off` on, lie in a list of n samples
+pub record RoomIn (side off apart n : ℕ) : Type 0 where
+  pub inside : off + (side - 1) * apart + side ≤ n
+  pub short : apart ≤ 4096
 
--- all m by m pieces of a prediction that has n samples, with the residuals of the blocks from `base` on
-pub record PiecesIn (m base n : ℕ) : Type 0 where
-  pub scan : Scan m
-  pub few : m ≤ 4
-  pub square : n ≡ 4 * m * (4 * m)
-  pub blocks : base + m * m ≤ 24
+-- ---- sums of a prediction and a residual
+-- the sample in column x and row y of a square whose prediction stands from `off` on, with rows `apart` apart
+abbrev pub sumOver : List ℕ → ℕ → ℕ → (ℕ → ℕ → ℤ) → ℕ → ℕ → ℕ
+sumOver pred off apart residual x y = Clip1 (pos (getD pred (off + y * apart + x) 0) +ℤ residual x y)
+
+-- a row with its first n samples put anew
+abbrev pub added : ℕ → List ℕ → (ℕ → ℤ) → List ℕ → List ℕ
+added n pred residual row = patch (λ i. ltb i n) (λ i. Clip1 (pos (getD pred i 0) +ℤ residual i)) row
 
 -- ---- residuals where a macroblock's numbers stood
 -- those of the 4x4 coefficient blocks from `first` on, and those of the 8x8 coefficient blocks before them

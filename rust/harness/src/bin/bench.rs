@@ -1,9 +1,9 @@
 //! The port and the Rust side by side in one run, on the same inputs. The Rust comes in the best forms that are known for it: with the same
-//! checks as the port, without them, and for pictures also with a short way for blocks of no or one coefficient. Its 8x8 inverse is the one
-//! that the differential runs compare with. All are timed in turns, many times; what is told is the median of the ratios with the quartiles
-//! around it.
+//! checks as the port and without them, and for pictures each also with a short way for blocks of no or one coefficient; the faster of the two is
+//! what the port is held against. Its 8x8 inverse is the one that the differential runs compare with. All are timed in turns, many times; what is told is the
+//! median of the ratios with the quartiles around it.
 //!
-//! `bench FOLDER [ROUNDS]` writes table.md, headline.md and benchmark.svg into the folder. Where valgrind is installed the table also has
+//! `bench FOLDER [ROUNDS [PART]]` writes table.md, headline.md and benchmark.svg into the folder, of the rows whose names have PART in them. Where valgrind is installed the table also has
 //! the instructions of each side: valgrind runs this program again with `count`, which makes each call a fixed number of times and times
 //! nothing.
 use harness::{bare_share, good_records, slice_map, sparse_records, Density, Memory, Random, Record};
@@ -20,11 +20,12 @@ use std::time::Instant;
 
 const INPUTS: usize = 256;
 
-/// The sides: the Rust with the port's checks, the Rust without them, the port, and for pictures the Rust that takes short cuts.
+/// The sides: the Rust with the port's checks, the Rust without them, the port, and for pictures the same two with short cuts.
 const CHECKED: usize = 0;
 const BARE: usize = 1;
 const PORT: usize = 2;
 const SHORT: usize = 3;
+const BARE_SHORT: usize = 4;
 
 /// The port's time as a share of one side's: the median and the quartiles.
 #[derive(Clone, Copy)]
@@ -41,6 +42,21 @@ struct Row {
     times: Vec<f64>,
     ratios: Vec<Ratio>,
     instructions: Option<Vec<f64>>,
+}
+
+impl Row {
+    /// The faster of two sides, of which the second is there for pictures alone.
+    fn faster(&self, side: usize, short: usize) -> usize {
+        match self.times.get(short) {
+            Some(&time) if time < self.times[side] => short,
+            _ => side,
+        }
+    }
+
+    /// The port's share of the best Rust's time, with the same checks or without.
+    fn ratio(&self, checks: bool) -> Ratio {
+        self.ratios[if checks { self.faster(CHECKED, SHORT) } else { self.faster(BARE, BARE_SHORT) }]
+    }
 }
 
 type Timed<'a> = &'a mut dyn FnMut(usize);
@@ -64,6 +80,11 @@ fn argument(k: usize) -> Option<String> {
 
 fn counting() -> bool {
     argument(1).as_deref() == Some("count")
+}
+
+/// Whether a row is asked for: all are, or those whose names have the third argument in them.
+fn asked(name: &str) -> bool {
+    argument(3).map_or(true, |part| name.contains(&part))
 }
 
 fn rounds() -> usize {
@@ -123,6 +144,8 @@ fn compare(group: &'static str, name: String, per: f64, mut sides: Vec<Timed>) -
     let count = sides.len();
     if counting() {
         sides.iter_mut().for_each(|side| counted_calls(counted(per), side));
+    }
+    if counting() || !asked(&name) {
         return Row { group, name, per, times: vec![0.0; count], ratios: Vec::new(), instructions: None };
     }
     let once = nanoseconds(1, sides[CHECKED]).max(nanoseconds(1, sides[CHECKED])).max(1.0);
@@ -143,11 +166,17 @@ fn compare(group: &'static str, name: String, per: f64, mut sides: Vec<Timed>) -
     let ratio = |r: &mut Vec<f64>| Ratio { low: share_of(r, 0.25), middle: share_of(r, 0.5), high: share_of(r, 0.75) };
     let times: Vec<f64> = times.iter_mut().map(|t| share_of(t, 0.5)).collect();
     let ratios: Vec<Ratio> = ratios.iter_mut().map(ratio).collect();
+    let row = Row { group, name, per, times, ratios, instructions: None };
+    let short = row.times.get(SHORT).map_or(String::new(), |time| format!(", with short cuts {time:>8.1} ns"));
     println!(
-        "{name:<38} Rust with checks {:>8.1} ns, without {:>8.1} ns, port {:>8.1} ns: {:.2} and {:.2} of the Rust",
-        times[CHECKED], times[BARE], times[PORT], ratios[CHECKED].middle, ratios[BARE].middle
+        "{:<42} Rust {:>8.1} ns{short}, port {:>8.1} ns: {:.2} of the best with its checks, {:.2} of the best without",
+        row.name,
+        row.times[CHECKED],
+        row.times[PORT],
+        row.ratio(true).middle,
+        row.ratio(false).middle
     );
-    Row { group, name, per, times, ratios, instructions: None }
+    row
 }
 
 /// All three marks, which the compiler does not know.
@@ -540,7 +569,7 @@ fn blocks(inputs: &Inputs) -> Vec<Row> {
 /// A whole picture in raster order, by macroblock, with the same order on every side.
 fn picture(random: &mut Random, group: &'static str, name: String, (w, h): (u32, u32), slices: Vec<u16>, records: &[Record]) -> Row {
     let mut ours = Memory::new(random, w, h, slices, 0);
-    let (mut checked, mut bare, mut short) = (ours.clone(), ours.clone(), ours.clone());
+    let (mut checked, mut bare, mut short, mut bare_short) = (ours.clone(), ours.clone(), ours.clone(), ours.clone());
     let whole = |memory: &mut Memory, call: &dyn Fn(&mut Memory, u32, u32, &Record) -> u32| {
         memory.restart();
         for (a, r) in records.iter().enumerate() {
@@ -557,10 +586,11 @@ fn picture(random: &mut Random, group: &'static str, name: String, (w, h): (u32,
             &mut |_| whole(&mut checked, &|m, x, y, r| m.rust_as::<true, false>(x, y, r.kind, &r.modes, r.chroma_mode, &r.numbers)),
             &mut |_| whole(&mut bare, &|m, x, y, r| m.rust_as::<false, false>(x, y, r.kind, &r.modes, r.chroma_mode, &r.numbers)),
             &mut |_| whole(&mut ours, &|m, x, y, r| m.port(x, y, r.kind, &r.modes, r.chroma_mode, &r.numbers)),
-            &mut |_| whole(&mut short, &|m, x, y, r| m.rust_as::<false, true>(x, y, r.kind, &r.modes, r.chroma_mode, &r.numbers)),
+            &mut |_| whole(&mut short, &|m, x, y, r| m.rust_as::<true, true>(x, y, r.kind, &r.modes, r.chroma_mode, &r.numbers)),
+            &mut |_| whole(&mut bare_short, &|m, x, y, r| m.rust_as::<false, true>(x, y, r.kind, &r.modes, r.chroma_mode, &r.numbers)),
         ],
     );
-    for theirs in [&checked, &bare, &short] {
+    for theirs in [&checked, &bare, &short, &bare_short] {
         assert!(ours.planes == theirs.planes, "every side rebuilt the same picture");
     }
     row
@@ -590,17 +620,26 @@ fn coded_picture(pattern: &str, file: &[u8]) -> Row {
     let coded = harness::store::read(file);
     let record = |(kind, modes, chroma_mode, numbers)| Record { kind, modes, chroma_mode, numbers };
     let records: Vec<Record> = coded.records.into_iter().map(record).collect();
-    let name = format!("{} by {}, {pattern}, coded by x264", 16 * coded.w, 16 * coded.h);
-    picture(&mut Random::new(4), "sparse", name, (coded.w, coded.h), coded.slices, &records)
+    let name = format!("{} by {}, {pattern}", 16 * coded.w, 16 * coded.h);
+    picture(&mut Random::new(4), "coded", name, (coded.w, coded.h), coded.slices, &records)
 }
 
-/// Two pictures that an encoder coded, and pictures with as few coefficients as real streams have, at three densities.
-fn sparse_pictures() -> Vec<Row> {
-    let mut random = Random::new(3);
-    let mut rows = vec![
+/// Pictures that an encoder coded.
+fn coded_pictures() -> Vec<Row> {
+    vec![
         coded_picture("bars", include_bytes!("../../../tests/data/bars_q30_baseline.rmb1")),
         coded_picture("fractal", include_bytes!("../../../tests/data/fractal_q27.rmb1")),
-    ];
+        coded_picture("noise", include_bytes!("../../../tests/data/noise_q24.rmb1")),
+        coded_picture("windmill at 20", include_bytes!("../../../tests/data/windmill_q20.rmb1")),
+        coded_picture("windmill at 28", include_bytes!("../../../tests/data/windmill_q28.rmb1")),
+        coded_picture("windmill at 36", include_bytes!("../../../tests/data/windmill_q36.rmb1")),
+    ]
+}
+
+/// Pictures with as few coefficients as those have, at three densities and of three sizes.
+fn sparse_pictures() -> Vec<Row> {
+    let mut random = Random::new(3);
+    let mut rows = Vec::new();
     let densities = [(0.10, 0.32), (0.17, 0.47), (0.35, 0.52)];
     for (w, h) in SIZES {
         for (bare_macroblocks, bare_blocks) in densities {
@@ -671,8 +710,9 @@ fn predictions(inputs: &Inputs) -> Vec<Row> {
     rows
 }
 
-const GROUPS: [(&str, &str); 5] = [
-    ("sparse", "Whole pictures with as few coefficients as real streams have, nanoseconds for a macroblock"),
+const GROUPS: [(&str, &str); 6] = [
+    ("coded", "Whole pictures that x264 coded, nanoseconds for a macroblock"),
+    ("sparse", "Whole pictures with as few coefficients as those, nanoseconds for a macroblock"),
     ("random", "Whole pictures with numbers at random, nanoseconds for a macroblock"),
     ("prediction", "Prediction, nanoseconds for a block"),
     ("sums", "Inverses and clipped sums, nanoseconds for a block"),
@@ -702,28 +742,26 @@ fn table(rows: &[Row]) -> String {
         let of_group: Vec<&Row> = rows.iter().filter(|r| r.group == group).collect();
         let short = of_group.iter().all(|r| r.times.len() > SHORT);
         let also = |yes: bool, text: &str| if yes { text.to_string() } else { String::new() };
+        let columns = 6 + 2 * short as usize + counted as usize;
         writeln!(
             out,
-            "\n### {title}\n\n| | Rust | no checks |{} port | port / Rust | quartiles | port / no checks |{}{}",
+            "\n### {title}\n\n| | Rust |{} no checks |{} port | port / Rust | quartiles | port / no checks |{}\n|---|{}",
             also(short, " short cuts |"),
-            also(short, " port / short cuts |"),
-            also(counted, " instructions |")
+            also(short, " neither checks nor long ways |"),
+            also(counted, " instructions |"),
+            "---:|".repeat(columns)
         )
         .unwrap();
-        let columns = 6 + 2 * short as usize + counted as usize;
-        writeln!(out, "|---|{}", "---:|".repeat(columns)).unwrap();
+        let order: Vec<usize> = if short { vec![CHECKED, SHORT, BARE, BARE_SHORT, PORT] } else { vec![CHECKED, BARE, PORT] };
         for r in of_group {
-            let (t, ratio) = (&r.times, &r.ratios);
-            let mut cells = vec![r.name.clone(), format!("{:.1}", t[CHECKED]), format!("{:.1}", t[BARE])];
-            cells.extend(short.then(|| format!("{:.1}", t[SHORT])));
-            cells.push(format!("{:.1}", t[PORT]));
-            cells.push(format!("**{:.2}**", ratio[CHECKED].middle));
-            cells.push(format!("{:.2} to {:.2}", ratio[CHECKED].low, ratio[CHECKED].high));
-            cells.push(format!("{:.2}", ratio[BARE].middle));
-            cells.extend(short.then(|| format!("{:.2}", ratio[SHORT].middle)));
+            let mut cells = vec![r.name.clone()];
+            cells.extend(order.iter().map(|&side| format!("{:.1}", r.times[side])));
+            let ratio = r.ratio(true);
+            cells.push(format!("**{:.2}**", ratio.middle));
+            cells.push(format!("{:.2} to {:.2}", ratio.low, ratio.high));
+            cells.push(format!("{:.2}", r.ratio(false).middle));
             if let Some(counts) = &r.instructions {
-                let order = [CHECKED, BARE, SHORT, PORT];
-                let of_sides: Vec<String> = order.iter().filter_map(|&k| counts.get(k)).map(|n| format!("{n:.0}")).collect();
+                let of_sides: Vec<String> = order.iter().map(|&side| format!("{:.0}", counts[side])).collect();
                 cells.push(of_sides.join(" / "));
             }
             writeln!(out, "| {} |", cells.join(" | ")).unwrap();
@@ -734,33 +772,33 @@ fn table(rows: &[Row]) -> String {
 
 /// What the figures say, in sentences: the ranges of the ratios.
 fn headline(rows: &[Row]) -> String {
-    let range = |group: &[&str], side: usize| {
-        let of = rows.iter().filter(|r| group.contains(&r.group) && r.ratios.len() > side).map(|r| r.ratios[side].middle);
+    let range = |group: &str, checks: bool| {
+        let of = rows.iter().filter(|r| r.group == group).map(|r| r.ratio(checks).middle);
         let (least, most) = of.fold((f64::MAX, 0.0), |(a, b): (f64, f64), v| (a.min(v), b.max(v)));
         format!("{least:.2} to {most:.2}")
     };
-    let blocks: Vec<&Row> = rows.iter().filter(|r| !["sparse", "random"].contains(&r.group)).collect();
-    let slower = |side: usize| blocks.iter().filter(|r| r.ratios[side].middle > 1.0).count();
+    let pictures = ["coded", "sparse", "random"];
+    let blocks: Vec<&Row> = rows.iter().filter(|r| !pictures.contains(&r.group)).collect();
+    let slower = |checks: bool| blocks.iter().filter(|r| r.ratio(checks).middle > 1.0).count();
     format!(
-        "- Pictures as real streams have them take {} of the time of the best Rust with the same checks,\n  \
-         {} of the Rust without checks 6 to 8, and {} of a Rust that also takes short cuts for blocks of no or one coefficient.\n\
-         - Pictures of numbers at random take {}, {} and {} of these times.\n\
+        "- Pictures that x264 coded take {} of the time of the best Rust with the same checks, and {} of the best Rust without checks 6 to 8.\n\
+         - Pictures of three sizes with as few coefficients take {} and {}, and pictures of numbers at random {} and {} of these times.\n\
          - Of {} block calls {} take longer than the best Rust with the same checks, and {} longer than the Rust without checks.\n",
-        range(&["sparse"], CHECKED),
-        range(&["sparse"], BARE),
-        range(&["sparse"], SHORT),
-        range(&["random"], CHECKED),
-        range(&["random"], BARE),
-        range(&["random"], SHORT),
+        range("coded", true),
+        range("coded", false),
+        range("sparse", true),
+        range("sparse", false),
+        range("random", true),
+        range("random", false),
         blocks.len(),
-        slower(CHECKED),
-        slower(BARE),
+        slower(true),
+        slower(false),
     )
 }
 
 fn plot(rows: &[Row]) -> String {
     let (left, scale, line) = (290.0, 220.0, 16.0);
-    let most = rows.iter().map(|r| r.ratios[CHECKED].high).fold(1.5, f64::max).ceil();
+    let most = rows.iter().map(|r| r.ratio(true).high).fold(1.5, f64::max).ceil();
     let (width, height) = (left + scale * most + 20.0, 50.0 + line * rows.len() as f64);
     let mut out = String::new();
     writeln!(
@@ -779,7 +817,7 @@ fn plot(rows: &[Row]) -> String {
     }
     for (k, r) in rows.iter().enumerate() {
         let y = 42.0 + line * k as f64;
-        let ratio = r.ratios[CHECKED];
+        let ratio = r.ratio(true);
         let colour = if ratio.middle <= 1.0 { "#4a8f5c" } else { "#c9803a" };
         writeln!(out, "<text x=\"{:.0}\" y=\"{:.1}\" text-anchor=\"end\">{}</text>", left - 8.0, y + 9.0, r.name).unwrap();
         writeln!(out, "<rect x=\"{left}\" y=\"{y:.1}\" width=\"{:.1}\" height=\"10\" fill=\"{colour}\"/>", scale * ratio.middle).unwrap();
@@ -810,7 +848,8 @@ fn write(rows: &mut [Row], folder: &Path) {
 
 fn main() {
     let inputs = Inputs::new();
-    let mut rows = sparse_pictures();
+    let mut rows = coded_pictures();
+    rows.extend(sparse_pictures());
     rows.extend(random_pictures());
     rows.extend(predictions(&inputs));
     rows.extend(blocks(&inputs));
@@ -818,6 +857,7 @@ fn main() {
     if counting() {
         return;
     }
+    rows.retain(|row| asked(&row.name));
     if let Some(folder) = argument(1) {
         write(&mut rows, Path::new(&folder));
     }

@@ -1,5 +1,5 @@
 -- `macroblock::planes::block_16x16` meets its contract: the mode is not refused, and the sums are the definition's. Assumes nothing.
-use mathlib.Core.Path.{_≡_, refl, sym, subst, _∙_}
+use mathlib.Core.Path.{_≡_, sym, subst, _∙_}
 use Prim.Native.Nat.{_+_, _*_}
 use native.Mathlib.Omega.{arith}
 use lib.ListN.{getD, length}
@@ -17,27 +17,33 @@ use Rattle.macroblock.proofs.planes.block_16x16.Tie as tie
 
 predict-16x16-requires : tie.Need-predict-16x16-requires
 predict-16x16-requires c κs =
-    let s = c .before .before in
-    let u = s .before .before .before in
+    let s = c .before .before .before in
+    let u = s .before .before .before .before in
     let a = u .args in
     let e = sym (s .square-sides .ensures) in (
-      subst (StandsIn 16 (a .place) (length (a .plane .now))) e (u .pre .stands),
-      subst (λ s. modeAnswer 3 (permitted16x16 (s .above) (s .left) (s .corner)) (getD (a .modes .now) 0 0) ≡ 0) (sym (whole-sides (marksOf (a .marks))) ∙ e) (u .pre .fine 0 (omega arith)),
+      search needs,
+      (
+        subst (StandsIn 16 (a .place) (length (a .plane .now))) e (u .pre .0 .stands),
+        subst (λ s. modeAnswer 3 (permitted16x16 (s .above) (s .left) (s .corner)) (getD (a .modes .now) 0 0) ≡ 0) (sym (whole-sides (marksOf (a .marks))) ∙ e) (u .pre .0 .fine 0 (omega arith)),
+      ),
     )
 
-put-pieces-requires : tie.Need-put-pieces-requires
-put-pieces-requires c κs =
-    let u = c .before .before .before .before .before .before .before .before in
-    ((u .pre .stands .block, record { scan = scan-4; few = omega arith; square = search needs; blocks = omega arith }), u .pre .all)
+put-16x16-requires : tie.Need-put-16x16-requires
+put-16x16-requires c κs =
+    let u = c .before .before .before .before .before .before .before .before .before .before .before in
+    ((u .pre .0 .stands .block, search needs), (u .pre .0 .all, u .pre .1))
 
 returns : tie.Need-returns
 returns c numbers T =
     let p = c .before .before in
-    let d = p .before .before .before in
-    let s = d .before .before .before in
-    let a = s .before .before .before .args in
+    let d = p .before .before .before .before in
+    let s = d .before .before .before .before in
+    let a = s .before .before .before .before .args in
     part-drawn (whole 16) (λ k. predFor 2 (getD (a .modes .now) k 0)) (residualL 2 numbers) (a .place) (marksOf (a .marks)) 0 (omega arith) (whole-place (a .place)) (s .square-sides .ensures ∙ whole-sides (marksOf (a .marks)))
-    (λ x y. y * 16 + x) (inPieces (a .residuals .now) 0) (a .plane .now) (d .predict-16x16 .ensures) (λ x y. refl) (pieces-transformed 4 0 scan-4 (omega arith) (omega arith) T) (p .put-pieces .ensures)
+    (λ x y. 0 + y * 16 + x) (inPieces (a .residuals .now) 0) (a .plane .now) (d .predict-16x16 .ensures) (λ x y. omega arith) (pieces-transformed 4 0 scan-4 (omega arith) (omega arith) T) (p .put-16x16 .ensures)
 
 pub block-16x16-spec : {M : Type 1} → statement M
-block-16x16-spec = tie.close (tie.spec (λ c κs. search needs) (λ c. search needs) predict-16x16-requires (λ c. search needs) put-pieces-requires (λ c. search needs) returns)
+block-16x16-spec =
+    tie.close
+    (tie.spec (λ c κs. search needs) (λ c. search needs) (λ c. search needs) predict-16x16-requires (λ c. search needs) put-16x16-requires (λ c. search needs)
+    returns)

@@ -33,22 +33,22 @@ shared-slice-read-predict-4x4 c = let u = c .before .before .before .before .bef
 
 predict-4x4-requires : tie.Need-predict-4x4-requires
 predict-4x4-requires c κs =
-    let e = c .before .before in
+    let e = c .before .before .before in
     let u = e .before .before .before .before in
     let a = u .args in
-    (block e, subst (λ s. modeAnswer 8 (permittedNxN (s .above) (s .left) (s .corner)) (getD (a .modes .now) (a .k) 0) ≡ 0) (sym (e .sides-of .ensures)) (u .pre .0 .fine (a .k) (u .pre .1)))
+    (search needs, (block e, subst (λ s. modeAnswer 8 (permittedNxN (s .above) (s .left) (s .corner)) (getD (a .modes .now) (a .k) 0) ≡ 0) (sym (e .sides-of .ensures)) (u .pre .0 .fine (a .k) (u .pre .1))))
 
 put-4x4-requires : tie.Need-put-4x4-requires
 put-4x4-requires c κs =
-    let e = c .before .before .before .before .before in
+    let e = c .before .before .before .before .before .before .before in
     let u = e .before .before .before .before in
-    ((block e .block, record { inside = search needs; narrow = omega arith }), (omega (arith, u .pre .1), u .pre .0 .all))
+    ((block e .block, search needs), (u .pre .1, u .pre .0 .all))
 
 returns : tie.Need-returns
 returns c numbers T =
     let p = c .before .before in
-    let d = p .before .before .before in
-    let e = d .before .before .before in
+    let d = p .before .before .before .before in
+    let e = d .before .before .before .before in
     let u = e .before .before .before .before in
     let a = u .args in
     part-drawn four (λ k. predFor 0 (getD (a .modes .now) k 0)) (residualL 0 numbers) (a .place) (marksOf (a .marks)) (a .k) (omega arith) (e .before .place-of .ensures) (e .sides-of .ensures)
@@ -58,5 +58,5 @@ returns c numbers T =
 pub block-4x4-spec : {M : Type 1} → statement M
 block-4x4-spec =
     tie.close
-    (tie.spec place-of-requires sides-of-requires shared-slice-read-predict-4x4 predict-4x4-requires (λ c. search needs) put-4x4-requires (λ c. search needs)
-    returns)
+    (tie.spec place-of-requires sides-of-requires shared-slice-read-predict-4x4 (λ c. search needs) predict-4x4-requires (λ c. search needs)
+    put-4x4-requires (λ c. search needs) returns)

@@ -3,6 +3,7 @@
 use mathlib.Core.Path.{_≡_, sym, subst}
 use Prim.Native.Nat.{_+_, _*_}
 use native.Mathlib.Omega.{arith}
+use borrow.Author.Tests.{eqb-true, not-false}
 use lib.ListN.{getD, length}
 use Rattle.laws.specs.Range.{at}
 use Rattle.basics.specs.Marks.{permittedNxN, modeAnswer}
@@ -18,46 +19,52 @@ use borrow.Author.Needs.{needs}
 use Rattle.macroblock.proofs.planes.block_8x8.Statement.{statement}
 use Rattle.macroblock.proofs.planes.block_8x8.Tie as tie
 
-block : (c : tie.After-sides-of) → StandsIn 8 (c .before .place-of .result) (length (c .before .before .before .before .args .plane .now)) (c .sides-of .result)
+block : (c : tie.After-sides-of) → StandsIn 8 (c .before .place-of .result) (length (c .before .before .before .before .before .args .plane .now)) (c .sides-of .result)
 block c =
-    let u = c .before .before .before .before in
-    stands-at 8 2 (u .args .k) (marksOf (u .args .marks)) scan-2 (omega arith) (u .pre .1) (u .pre .0 .stands) (c .before .place-of .ensures) (c .sides-of .ensures)
+    let u = c .before .before .before .before .before in
+    stands-at 8 2 (u .args .k) (marksOf (u .args .marks)) scan-2 (omega arith) (u .pre .0 .1) (u .pre .0 .0 .stands) (c .before .place-of .ensures) (c .sides-of .ensures)
 
 place-of-requires : tie.Need-place-of-requires
-place-of-requires c κs = let u = c .before .before in (record { scan = scan-2; few = omega arith; one = u .pre .1 }, place-low (u .pre .0 .stands .block) (omega arith))
+place-of-requires c κs = let u = c .before .before .before in (record { scan = scan-2; few = omega arith; one = u .pre .0 .1 }, place-low (u .pre .0 .0 .stands .block) (omega arith))
 
 sides-of-requires : tie.Need-sides-of-requires
-sides-of-requires c κs = record { scan = scan-2; few = omega arith; one = c .before .before .before .pre .1 }
+sides-of-requires c κs = record { scan = scan-2; few = omega arith; one = c .before .before .before .before .pre .0 .1 }
 
 shared-slice-read-predict-8x8 : tie.Need-shared-slice-read-predict-8x8
-shared-slice-read-predict-8x8 c = let u = c .before .before .before .before .before .before in omega (arith, u .pre .1, u .pre .0 .sixteen)
+shared-slice-read-predict-8x8 c = let u = c .before .before .before .before .before .before .before in omega (arith, u .pre .0 .1, u .pre .0 .0 .sixteen)
 
 predict-8x8-requires : tie.Need-predict-8x8-requires
 predict-8x8-requires c κs =
-    let e = c .before .before in
-    let u = e .before .before .before .before in
+    let e = c .before .before .before in
+    let u = e .before .before .before .before .before in
     let a = u .args in
-    (block e, subst (λ s. modeAnswer 8 (permittedNxN (s .above) (s .left) (s .corner)) (getD (a .modes .now) (a .k) 0) ≡ 0) (sym (e .sides-of .ensures)) (u .pre .0 .fine (a .k) (u .pre .1)))
+    (search needs, (block e, subst (λ s. modeAnswer 8 (permittedNxN (s .above) (s .left) (s .corner)) (getD (a .modes .now) (a .k) 0) ≡ 0) (sym (e .sides-of .ensures)) (u .pre .0 .0 .fine (a .k) (u .pre .0 .1))))
+
+shared-slice-read-some : tie.Need-shared-slice-read-some
+shared-slice-read-some c = let u = c .before .before .before .before .before .before .before .before .before .before .before in omega (arith, u .pre .0 .1, u .pre .1 .six)
 
 put-8x8-requires : tie.Need-put-8x8-requires
 put-8x8-requires c κs =
-    let e = c .before .before .before .before .before in
-    let u = e .before .before .before .before in
-    ((block e .block, search needs), (u .pre .1, u .pre .0 .all))
+    let e = c .before .before .before .before .before .before .before .before in
+    let u = e .before .before .before .before .before in
+    let k = u .args .k in (
+      (block e .block, search needs),
+      (u .pre .0 .1, u .pre .0 .0 .all, λ z i h. u .pre .1 .blank k i (omega (arith, u .pre .0 .1)) h (eqb-true _ 0 (not-false _ z))),
+    )
 
 returns : tie.Need-returns
 returns c numbers T =
     let p = c .before .before in
-    let d = p .before .before .before in
-    let e = d .before .before .before in
-    let u = e .before .before .before .before in
+    let d = p .before .before .before .before .before in
+    let e = d .before .before .before .before in
+    let u = e .before .before .before .before .before in
     let a = u .args in
     part-drawn eight (λ k. predFor 1 (getD (a .modes .now) k 0)) (residualL 1 numbers) (a .place) (marksOf (a .marks)) (a .k) (omega arith) (e .before .place-of .ensures) (e .sides-of .ensures)
     (λ x y. 0 + y * 8 + x) (λ x y. at (a .residuals .now) (64 * a .k + (8 * y + x))) (a .plane .now) (d .predict-8x8 .ensures) (λ x y. omega arith)
-    (λ x y hx hy. T .before (a .k) x y (omega (arith, u .pre .1)) hx hy) (p .put-8x8 .ensures)
+    (λ x y hx hy. T .before (a .k) x y (omega (arith, u .pre .0 .1)) hx hy) (p .put-8x8 .ensures)
 
 pub block-8x8-spec : {M : Type 1} → statement M
 block-8x8-spec =
     tie.close
-    (tie.spec place-of-requires sides-of-requires shared-slice-read-predict-8x8 predict-8x8-requires (λ c. search needs) put-8x8-requires (λ c. search needs)
-    returns)
+    (tie.spec place-of-requires sides-of-requires shared-slice-read-predict-8x8 (λ c. search needs) predict-8x8-requires shared-slice-read-some
+    (λ c. search needs) put-8x8-requires (λ c. search needs) returns)

@@ -26,28 +26,28 @@ rebuilt : tie.Start → List ℤ → ℕ → ℕ → List ℕ
 rebuilt u numbers n k = let a = u .args in part (cutFor n) (lumaRule n (a .modes .now) numbers) (a .place .stride) (a .place .column) (a .place .row) (marksOf (a .marks)) k (a .plane .now)
 
 block-4x4-requires : tie.Need-block-4x4-requires
-block-4x4-requires c κs = let u = c .before .before .before .before in let e : u .args .kind ≡ 0 = omega arith in subst (asks u) e (u .pre)
+block-4x4-requires c κs = let u = c .before .before .before .before .before in let e : u .args .kind ≡ 0 = omega arith in subst (asks u) e (u .pre .0)
 
 block-8x8-requires : tie.Need-block-8x8-requires
-block-8x8-requires c κs = let u = c .before .before .before .before .before in let e : u .args .kind ≡ 1 = omega arith in subst (asks u) e (u .pre)
+block-8x8-requires c κs = let u = c .before .before .before .before .before .before in let e : u .args .kind ≡ 1 = omega arith in (subst (asks u) e (u .pre .0), u .pre .1)
 
 block-16x16-requires : tie.Need-block-16x16-requires
 block-16x16-requires c κs =
     let d = c .before in
-    let u = d .before .before .before .before in
-    other-kind (λ n. asks u n → asks u 2) (λ j p. (record { stands = p .0 .stands; fine = p .0 .fine; sixteen = p .0 .sixteen; all = p .0 .all }, p .1)) (u .args .kind) (d .before .if1 .left) (d .if2 .left) (u .pre) .0
+    let u = d .before .before .before .before .before in
+    (other-kind (λ n. asks u n → asks u 2) (λ j p. (record { stands = p .0 .stands; fine = p .0 .fine; sixteen = p .0 .sixteen; all = p .0 .all }, p .1)) (u .args .kind) (d .before .if1 .left) (d .if2 .left) (u .pre .0) .0, u .pre .1)
 
 returns : tie.Need-returns
 unfolding rebuilt
 returns c numbers T =
-    let u = c .before .before .before .before .before .before .before in
+    let u = c .before .before .before .before .before .before .before .before in
     let e : u .args .kind ≡ 0 = omega arith in
     c .before .before .block-4x4 .ensures numbers (subst (ready u numbers) e T) ∙ ap (λ n. rebuilt u numbers n (u .args .k)) (sym e)
 
 returns-2 : tie.Need-returns-2
 unfolding rebuilt
 returns-2 c numbers T =
-    let u = c .before .before .before .before .before .before .before .before in
+    let u = c .before .before .before .before .before .before .before .before .before in
     let e : u .args .kind ≡ 1 = omega arith in
     c .before .before .block-8x8 .ensures numbers (subst (ready u numbers) e T) ∙ ap (λ n. rebuilt u numbers n (u .args .k)) (sym e)
 
@@ -60,12 +60,12 @@ unfolding rebuilt
 returns-3 c numbers T =
     let b = c .before .before in
     let d = b .before .before in
-    let u = d .before .before .before .before in
+    let u = d .before .before .before .before .before in
     let k = u .args .k in
     let n₀ = d .before .if1 .left in
     let n₁ = d .if2 .left in
     b .block-16x16 .ensures numbers (other-kind (λ n. ready u numbers n → ready u numbers 2) (λ j t. t) (u .args .kind) n₀ n₁ T)
-    ∙ other-kind (λ n. k < used n → rebuilt u numbers 2 0 ≡ rebuilt u numbers n k) (λ j l. ap (rebuilt u numbers 2) (first k l)) (u .args .kind) n₀ n₁ (u .pre .1)
+    ∙ other-kind (λ n. k < used n → rebuilt u numbers 2 0 ≡ rebuilt u numbers n k) (λ j l. ap (rebuilt u numbers 2) (first k l)) (u .args .kind) n₀ n₁ (u .pre .0 .1)
 
 pub luma-block-spec : {M : Type 1} → statement M
 luma-block-spec =

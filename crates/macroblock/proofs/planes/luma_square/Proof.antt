@@ -18,12 +18,12 @@ use Rattle.macroblock.proofs.planes.luma_square.Statement.{statement}
 use Rattle.macroblock.proofs.planes.luma_square.Tie as tie
 
 abbrev Inv-loop : tie.InvT-loop
-Inv-loop plane₀ stride x y marks kind modes residuals place n k₀ plane k =
+Inv-loop plane₀ stride x y marks kind modes residuals coded place n k₀ plane k =
     (k ≤ n) × (length plane ≡ length plane₀)
     × ((numbers : List ℤ) → Transformed (firstFor kind) numbers residuals → plane ≡ upTo (part (cutFor kind) (lumaRule kind modes numbers) stride x y (marksOf marks)) k plane₀)
 
 abbrev μ-loop : tie.MeasureT-loop
-μ-loop plane₀ stride x y marks kind modes residuals place n k₀ plane k = n - k
+μ-loop plane₀ stride x y marks kind modes residuals coded place n k₀ plane k = n - k
 
 loop-holds : tie.Need-loop-holds Inv-loop μ-loop
 loop-holds c = (omega arith, refl, λ numbers T. steps-none _ _)
@@ -32,15 +32,15 @@ luma-block-requires : tie.Need-luma-block-requires Inv-loop μ-loop
 luma-block-requires c κs =
     let b = c .before .before in
     let n = b .before in
-    let u = n .before .before .before in
+    let u = n .before .before .before .before in
     let a = u .args in
-    (subst (λ l. LumaReady (a .kind) (placeAt (a .stride) (a .y) (a .x)) l (marksOf (a .marks)) (a .modes .now) (a .residuals .now)) (sym (b .loop .inv .1)) (u .pre), omega (arith, n .used-modes .ensures))
+    ((subst (λ l. LumaReady (a .kind) (placeAt (a .stride) (a .y) (a .x)) l (marksOf (a .marks)) (a .modes .now) (a .residuals .now)) (sym (b .loop .inv .1)) (u .pre .0), omega (arith, n .used-modes .ensures)), u .pre .1)
 
 loop-again : tie.Need-loop-again Inv-loop μ-loop
 loop-again c =
     let p = c .before .before in
     let b = p .before .before .before in
-    let a = b .before .before .before .before .args in (
+    let a = b .before .before .before .before .before .args in (
       omega arith,
       c .before .plane .given ∙ b .loop .inv .1,
       λ numbers T. steps-more _ (b .loop .k) (a .plane .now) (b .loop .plane) _ (b .loop .inv .2 numbers T) (p .luma-block .ensures numbers T),
@@ -53,7 +53,7 @@ returns : tie.Need-returns Inv-loop μ-loop
 returns c numbers T =
     let b = c .before in
     let n = b .before in
-    let a = n .before .before .before .args in
+    let a = n .before .before .before .before .args in
     let e : b .loop .k ≡ blocks (cutFor (a .kind)) = omega (arith, n .used-modes .ensures, used-is (a .kind)) in
     b .loop .inv .2 numbers T
     ∙ ap (λ n. upTo (part (cutFor (a .kind)) (lumaRule (a .kind) (a .modes .now) numbers) (a .stride) (a .x) (a .y) (marksOf (a .marks))) n (a .plane .now)) e

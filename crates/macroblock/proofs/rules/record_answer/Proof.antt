@@ -30,7 +30,7 @@ returns-2 : tie.Need-returns-2
 returns-2 c = let a = c .before .before .before .before .before .args in rw (listed (c .before .before), sym (c .before .is-known .ensures (a .numbers .now)) ∙ not-true _ (c .if2 .taken))
 
 is-permitted-requires : tie.Need-is-permitted-requires
-is-permitted-requires c κs = sixteen (c .before .before)
+is-permitted-requires c κs = (sixteen (c .before .before), λ numbers. sym (c .before .is-known .ensures numbers) ∙ not-false _ (c .if2 .left))
 
 returns-3 : tie.Need-returns-3
 returns-3 c =

@@ -1,0 +1,51 @@
+-- `macroblock::put::add_8x8` meets its contract. The invariant: the first y rows are put. Assumes nothing.
+use Prim.Native.Nat.{_+_, _*_, _-_}
+use native.Mathlib.Omega.{arith}
+use borrow.Rule.Slice.PartMut.{midOf}
+use lib.IntN.{pos}
+use lib.ListN.{length, length-take, length-drop}
+use Rattle.laws.specs.Range.{at}
+use Rattle.laws.proofs.Stretches.{part-at}
+use Rattle.macroblock.proofs.Rows.{Rows, AtRow, none-yet, row-at, same-long, one-more, all-put}
+use borrow.Author.Needs.{needs}
+use Rattle.macroblock.proofs.put.add_8x8.Statement.{statement}
+use Rattle.macroblock.proofs.put.add_8x8.Tie as tie
+
+abbrev Inv-loop : tie.InvT-loop
+Inv-loop plane₀ off stride pred res y₀ plane y = Rows 8 off stride 0 8 pred (λ x y. at res (8 * y + x)) plane₀ y plane
+
+abbrev μ-loop : tie.MeasureT-loop
+μ-loop plane₀ off stride pred res y₀ plane y = 8 - y
+
+-- row y, in the plane and in the prediction, which is a square by itself
+here : (c : tie.In-loop Inv-loop μ-loop) → let b = c .before in let a = b .before .before .before .args in
+    AtRow 8 (a .off) (a .stride) 0 8 (b .loop .y) (a .pred .now) (a .plane .now) (b .loop .plane)
+here c =
+    let u = c .before .before .before .before in
+    row-at (c .before .loop .inv) (u .pre .1) (record { inside = omega (arith, u .pre .2); short = omega arith }) (omega arith)
+
+add-eight-requires : tie.Need-add-eight-requires Inv-loop μ-loop
+add-eight-requires c κs =
+    let i = c .before .before .before in
+    let w = here i in
+    let full = i .before .before .before .before .pre .3 in
+    (simp (length-take, length-drop) (omega arith), simp (length-take, length-drop) (omega arith), simp (length-take, length-drop) (omega arith))
+
+loop-again : tie.Need-loop-again Inv-loop μ-loop
+loop-again c =
+    let i = c .before .before .before .before .before .before in
+    let y = i .before .loop .y in
+    let u = i .before .before .before .before in
+    let res = u .args .res .now in
+    let full = u .pre .3 in
+    one-more (i .before .loop .inv) {a = y * 8} (at (midOf (8 * y) (length res - 8 * y) res)) (u .pre .0) (omega arith) (here i) (omega arith)
+    (λ x h. part-at (pos 0) res (8 * y) (length res - 8 * y) x (omega arith)) (c .before .before .add-eight .ensures)
+
+pub add-8x8-spec : {M : Type 1} → statement M
+add-8x8-spec =
+    tie.close
+    (tie.spec Inv-loop μ-loop (λ c. none-yet) (λ c. search needs) (λ c. search needs) (λ c. search needs) (λ c. search needs) (λ c. search needs)
+    (λ c. search needs) (λ c. search needs) (λ c. search needs) (λ c. search needs) (λ c. let w = here (c .before .before) in omega arith)
+    (λ c. let w = here (c .before .before) in omega arith) (λ c. let w = here (c .before .before) in omega arith)
+    (λ c. let w = here (c .before .before) in omega arith) (λ c. let w = here (c .before .before) in omega arith) add-eight-requires
+    (λ c. search needs) (λ c. search needs) loop-again (λ c. same-long (c .before .loop .inv)) (λ c. all-put (c .before .loop .inv) (omega arith)))
