@@ -80,7 +80,7 @@ pub quarter-room : {apart n o u v : ℕ} → RoomIn 8 o apart n → u < 2 → v 
 quarter-room {apart} {n} {o} {u} {v} R hu hv =
     let a : (v * 4 + 3) * apart ≤ 7 * apart = mul-le-mul-right apart (omega arith) in
     let b = add-mul (v * 4) 3 apart in
-    record { offset = omega (arith, R .inside); room = record { inside = omega (arith, R .inside); short = R .short } }
+    record { offset = omega (arith, R .inside); room = record { inside = omega (arith, R .inside) } }
 
 -- sample (x % 4, y % 4) of piece (x / 4, y / 4) of a block whose rows are `apart` apart is sample (x, y) of the block
 pub quarter-place : (o apart x y : ℕ) → o + y / 4 * 4 * apart + x / 4 * 4 + y % 4 * apart + x % 4 ≡ o + y * apart + x

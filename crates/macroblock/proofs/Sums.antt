@@ -22,7 +22,7 @@ use Rattle.macroblock.proofs.Places.{put-is-put}
 
 -- the block has room, by its first sample
 pub room-at : {q n : ℕ} {p : Place} → BlockIn q p n → RoomIn q (p .row * q * p .stride + p .column * q) (p .stride) n
-room-at {q} {n} {p} F = record { inside = omega (arith, F .within, add-mul (p .row * q) (q - 1) (p .stride)); short = F .short }
+room-at {q} {n} {p} F = record { inside = omega (arith, F .within, add-mul (p .row * q) (q - 1) (p .stride)) }
 
 -- the sums that a call puts by their offset, for residuals that are the same in the block
 pub put-sums : (q po ps : ℕ) (place : Place) (pred p : List ℕ) (ρ σ : ℕ → ℕ → ℤ) {p′ : List ℕ} → BlockIn q place (length p)

@@ -1,13 +1,14 @@
 // One macroblock in its three planes, from a record and the marks of its four neighbours (clauses 8.3 and 8.5).
 ghost use mathlib.Core.Path.{_≡_};
+ghost use Prim.Native.Nat.{_<_};
 ghost use lib.ListN.{length};
 ghost use Rattle.laws.specs.Answer.{answer, written};
 ghost use Rattle.maps.specs.Neighbours.{marksOf};
 ghost use Rattle.macroblock.specs.Kinds.{recordOf, lumaSquare, cbSquare, crSquare};
 ghost use Rattle.macroblock.specs.Rules.{rooms, rebuildAnswer};
+ghost use Rattle.macroblock.specs.inner.Blocks.{Prepared};
 use maps::neighbours::Marks;
-use planes::chroma_square;
-use planes::luma_square;
+use planes::all_squares;
 use residuals::residuals_of;
 use rules::has_rooms;
 use rules::record_answer;
@@ -62,6 +63,66 @@ pub fn rebuild(
 {
     let x = x as usize;
     let y = y as usize;
+    let mut residuals = [0i16; 384];
+    let mut coded = [0u8; 6];
+    let answer = prepare(
+        x,
+        y,
+        luma,
+        cb,
+        cr,
+        strides,
+        marks,
+        kind,
+        modes,
+        chroma_mode,
+        numbers,
+        &mut residuals,
+        &mut coded,
+    );
+    if answer != 0 {
+        return answer;
+    }
+    all_squares(
+        x,
+        y,
+        luma,
+        cb,
+        cr,
+        strides,
+        marks,
+        kind,
+        modes,
+        chroma_mode,
+        &residuals,
+        &coded,
+    );
+    0
+}
+
+// What the call is refused for, before anything is written; and where it is not, the residuals and which quads have a coefficient.
+fn prepare(
+    x: usize,
+    y: usize,
+    luma: &[u8],
+    cb: &[u8],
+    cr: &[u8],
+    strides: Strides,
+    marks: Marks,
+    kind: u8,
+    modes: &[u8],
+    chroma_mode: u8,
+    numbers: &[i32],
+    residuals: &mut [i16],
+    coded: &mut [u8],
+) -> u32
+    requires { ⌜ (x < 4294967296) × (y < 4294967296) × (length (now residuals) ≡ 384) × (length (now coded) ≡ 6) ⌝ }
+    ensures { λ r. ⌜ r ≡ rebuildAnswer
+        (rooms x y (length (now (luma .entry))) (length (now (cb .entry))) (length (now (cr .entry))) strides (marksOf marks))
+        (marksOf marks) (recordOf kind (now (modes .entry)) «chroma_mode» (now (numbers .entry))) ⌝ }
+    ensures { λ r. ⌜ (r ≡ 0 → Prepared x y (length (now (luma .entry))) (length (now (cb .entry))) (length (now (cr .entry))) strides (marksOf marks)
+        (recordOf kind (now (modes .entry)) «chroma_mode» (now (numbers .entry))) (now (residuals .exit)) (now (coded .exit))) ⌝ }
+{
     if !has_rooms(x, y, luma, cb, cr, strides, marks) {
         return 2;
     }
@@ -69,45 +130,8 @@ pub fn rebuild(
     if answer != 0 {
         return answer;
     }
-    let mut residuals = [0i16; 384];
-    let mut coded = [0u8; 6];
-    if !residuals_of(kind, numbers, &mut residuals, &mut coded) {
+    if !residuals_of(kind, numbers, residuals, coded) {
         return 8;
     }
-    luma_square(
-        luma,
-        strides.luma,
-        x,
-        y,
-        marks,
-        kind,
-        modes,
-        &residuals,
-        &coded,
-    );
-    let in_cb = coded[4] != 0;
-    chroma_square(
-        cb,
-        strides.cb,
-        x,
-        y,
-        marks,
-        chroma_mode,
-        &residuals,
-        16,
-        in_cb,
-    );
-    let in_cr = coded[5] != 0;
-    chroma_square(
-        cr,
-        strides.cr,
-        x,
-        y,
-        marks,
-        chroma_mode,
-        &residuals,
-        20,
-        in_cr,
-    );
     0
 }

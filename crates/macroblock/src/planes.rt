@@ -12,6 +12,7 @@ ghost use Rattle.macroblock.specs.Kinds.{cutFor, lumaRule, chromaRule};
 ghost use Rattle.macroblock.specs.Rules.{used};
 ghost use Rattle.macroblock.specs.Square.{placeAt, part, allParts};
 ghost use Rattle.macroblock.specs.inner.Blocks.{LumaReady, ChromaReady, Coded, Transformed, firstFor};
+use super::Strides;
 use super::cut::Place;
 use super::cut::place_of;
 use super::cut::sides_of;
@@ -26,6 +27,69 @@ use super::put::put_16x16;
 use super::put::put_quad;
 use super::rules::used_modes;
 use maps::neighbours::Marks;
+
+// All three squares of a record that is not refused, with a mark for each 64 residuals.
+pub(crate) fn all_squares(
+    x: usize,
+    y: usize,
+    luma: &mut [u8],
+    cb: &mut [u8],
+    cr: &mut [u8],
+    strides: Strides,
+    marks: Marks,
+    kind: u8,
+    modes: &[u8],
+    chroma_mode: u8,
+    residuals: &[i16],
+    coded: &[u8],
+)
+    requires { ⌜ LumaReady kind (placeAt (strides .luma) y x) (length (now luma)) (marksOf marks) (now modes) (now residuals) ⌝ }
+    requires { ⌜ ChromaReady «chroma_mode» 16 (placeAt (strides .cb) y x) (length (now cb)) (marksOf marks) (now residuals) ⌝ }
+    requires { ⌜ ChromaReady «chroma_mode» 20 (placeAt (strides .cr) y x) (length (now cr)) (marksOf marks) (now residuals) ⌝ }
+    requires { ⌜ Coded (now residuals) (now coded) ⌝ }
+    ensures { λ _. ⌜ ((numbers : List ℤ) → Transformed (firstFor kind) numbers (now (residuals .entry)) → now (luma .exit)
+        ≡ allParts (cutFor kind) (lumaRule kind (now (modes .entry)) numbers) (strides .luma) x y (marksOf marks) (now (luma .entry))) ⌝ }
+    ensures { λ _. ⌜ ((numbers : List ℤ) → Transformed (firstFor kind) numbers (now (residuals .entry)) → now (cb .exit)
+        ≡ allParts (whole 8) (chromaRule «chroma_mode» numbers 16) (strides .cb) x y (marksOf marks) (now (cb .entry))) ⌝ }
+    ensures { λ _. ⌜ ((numbers : List ℤ) → Transformed (firstFor kind) numbers (now (residuals .entry)) → now (cr .exit)
+        ≡ allParts (whole 8) (chromaRule «chroma_mode» numbers 20) (strides .cr) x y (marksOf marks) (now (cr .entry))) ⌝ }
+{
+    luma_square(
+        luma,
+        strides.luma,
+        x,
+        y,
+        marks,
+        kind,
+        modes,
+        residuals,
+        coded,
+    );
+    let in_cb = coded[4] != 0;
+    chroma_square(
+        cb,
+        strides.cb,
+        x,
+        y,
+        marks,
+        chroma_mode,
+        residuals,
+        16,
+        in_cb,
+    );
+    let in_cr = coded[5] != 0;
+    chroma_square(
+        cr,
+        strides.cr,
+        x,
+        y,
+        marks,
+        chroma_mode,
+        residuals,
+        20,
+        in_cr,
+    );
+}
 
 // Luma block k of kind 0, in the square that stands at `place`.
 fn block_4x4(
@@ -117,7 +181,7 @@ fn luma_block(
 }
 
 // The luma square: its blocks in scan order.
-pub(crate) fn luma_square(
+fn luma_square(
     plane: &mut [u8],
     stride: usize,
     x: usize,
@@ -147,7 +211,7 @@ pub(crate) fn luma_square(
 }
 
 // A chroma plane's square, whose residuals are those of the blocks from `base` on, and all 0 unless `some` says that there may be others.
-pub(crate) fn chroma_square(
+fn chroma_square(
     plane: &mut [u8],
     stride: usize,
     x: usize,

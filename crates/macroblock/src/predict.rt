@@ -16,7 +16,8 @@ pub(crate) fn predict_4x4(plane: &[u8], place: Place, sides: Sides, mode: u8, pr
     requires { ⌜ length (now pred) ≡ 16 ⌝ }
     requires { ⌜ StandsIn 4 place (length (now plane)) sides ⌝ }
     requires { ⌜ modeAnswer 8 (permittedNxN (sides .above) (sides .left) (sides .corner)) mode ≡ 0 ⌝ }
-    ensures { λ _. ⌜ now (pred .exit) ≡ blockOf 4 (pred4x4L mode (sides .above) (sides .left) (sides .corner) (nearBlock 4 place (now (plane .entry)) sides 8)) ⌝ }
+    ensures { λ _. ⌜ now (pred .exit) ≡ blockOf 4
+        (pred4x4L mode (sides .above) (sides .left) (sides .corner) (nearBlock 4 place (now (plane .entry)) sides 8)) ⌝ }
 {
     let mut top = [0u8; 8];
     let mut left = [0u8; 4];
@@ -37,7 +38,8 @@ pub(crate) fn predict_8x8(plane: &[u8], place: Place, sides: Sides, mode: u8, pr
     requires { ⌜ length (now pred) ≡ 64 ⌝ }
     requires { ⌜ StandsIn 8 place (length (now plane)) sides ⌝ }
     requires { ⌜ modeAnswer 8 (permittedNxN (sides .above) (sides .left) (sides .corner)) mode ≡ 0 ⌝ }
-    ensures { λ _. ⌜ now (pred .exit) ≡ blockOf 8 (pred8x8L mode (sides .above) (sides .left) (sides .corner) (nearBlock 8 place (now (plane .entry)) sides 16)) ⌝ }
+    ensures { λ _. ⌜ now (pred .exit) ≡ blockOf 8
+        (pred8x8L mode (sides .above) (sides .left) (sides .corner) (nearBlock 8 place (now (plane .entry)) sides 16)) ⌝ }
 {
     let mut top = [0u8; 16];
     let mut left = [0u8; 8];

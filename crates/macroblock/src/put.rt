@@ -44,7 +44,8 @@ pub(crate) fn put_8x8(
 )
     requires { ⌜ BlockIn 8 place (length (now plane)) × (length (now pred) ≡ 64) ⌝ }
     requires { ⌜ (k < 4) × (length (now residuals) ≡ 384) × (some ≡ false → (i : ℕ) → i < 64 → at (now residuals) (64 * k + i) ≡ pos 0) ⌝ }
-    ensures { λ _. ⌜ now (plane .exit) ≡ putBlock 8 place (sumOver (now (pred .entry)) 0 8 (λ x y. at (now (residuals .entry)) (64 * k + (8 * y + x)))) (now (plane .entry)) ⌝ }
+    ensures { λ _. ⌜ now (plane .exit) ≡ putBlock 8 place
+        (sumOver (now (pred .entry)) 0 8 (λ x y. at (now (residuals .entry)) (64 * k + (8 * y + x)))) (now (plane .entry)) ⌝ }
 {
     let off = place.row * 8 * place.stride + place.column * 8;
     if some {
@@ -110,7 +111,8 @@ pub(crate) fn put_quad(
 )
     requires { ⌜ BlockIn 8 place (length (now plane)) × RoomIn 8 «p_off» «p_stride» (length (now pred)) ⌝ }
     requires { ⌜ (base + 4 ≤ 24) × (length (now residuals) ≡ 384) × (some ≡ false → (i : ℕ) → i < 64 → at (now residuals) (16 * base + i) ≡ pos 0) ⌝ }
-    ensures { λ _. ⌜ now (plane .exit) ≡ putBlock 8 place (sumOver (now (pred .entry)) «p_off» «p_stride» (inPieces (now (residuals .entry)) base)) (now (plane .entry)) ⌝ }
+    ensures { λ _. ⌜ now (plane .exit) ≡ putBlock 8 place
+        (sumOver (now (pred .entry)) «p_off» «p_stride» (inPieces (now (residuals .entry)) base)) (now (plane .entry)) ⌝ }
 {
     if !some {
         let off = place.row * 8 * place.stride + place.column * 8;
@@ -151,7 +153,8 @@ fn put_piece(
 )
     requires { ⌜ BlockIn 4 place (length (now plane)) × RoomIn 4 «p_off» «p_stride» (length (now pred)) ⌝ }
     requires { ⌜ (b < 24) × (length (now residuals) ≡ 384) ⌝ }
-    ensures { λ _. ⌜ now (plane .exit) ≡ putBlock 4 place (sumOver (now (pred .entry)) «p_off» «p_stride» (inPiece (now (residuals .entry)) b)) (now (plane .entry)) ⌝ }
+    ensures { λ _. ⌜ now (plane .exit) ≡ putBlock 4 place
+        (sumOver (now (pred .entry)) «p_off» «p_stride» (inPiece (now (residuals .entry)) b)) (now (plane .entry)) ⌝ }
 {
     let off = place.row * 4 * place.stride + place.column * 4;
     add_4x4(
@@ -176,7 +179,8 @@ fn add_4x4(
     res: &[i16],
 )
     requires { ⌜ (4 ≤ stride) × RoomIn 4 off stride (length (now plane)) × RoomIn 4 «p_off» «p_stride» (length (now pred)) × (length (now res) ≡ 16) ⌝ }
-    ensures { λ _. ⌜ now (plane .exit) ≡ putSquare 4 off stride (sumOver (now (pred .entry)) «p_off» «p_stride» (λ x y. at (now (res .entry)) (4 * y + x))) (now (plane .entry)) ⌝ }
+    ensures { λ _. ⌜ now (plane .exit) ≡ putSquare 4 off stride
+        (sumOver (now (pred .entry)) «p_off» «p_stride» (λ x y. at (now (res .entry)) (4 * y + x))) (now (plane .entry)) ⌝ }
 {
     for y in 0..4 {
         add_four(
@@ -189,7 +193,8 @@ fn add_4x4(
 
 fn add_8x8(plane: &mut [u8], off: usize, stride: usize, pred: &[u8], res: &[i16])
     requires { ⌜ (8 ≤ stride) × RoomIn 8 off stride (length (now plane)) × (length (now pred) ≡ 64) × (length (now res) ≡ 64) ⌝ }
-    ensures { λ _. ⌜ now (plane .exit) ≡ putSquare 8 off stride (sumOver (now (pred .entry)) 0 8 (λ x y. at (now (res .entry)) (8 * y + x))) (now (plane .entry)) ⌝ }
+    ensures { λ _. ⌜ now (plane .exit) ≡ putSquare 8 off stride
+        (sumOver (now (pred .entry)) 0 8 (λ x y. at (now (res .entry)) (8 * y + x))) (now (plane .entry)) ⌝ }
 {
     for y in 0..8 {
         add_eight(
@@ -202,7 +207,8 @@ fn add_8x8(plane: &mut [u8], off: usize, stride: usize, pred: &[u8], res: &[i16]
 
 fn copy_8x8(plane: &mut [u8], off: usize, stride: usize, pred: &[u8], p_off: usize, p_stride: usize)
     requires { ⌜ (8 ≤ stride) × RoomIn 8 off stride (length (now plane)) × RoomIn 8 «p_off» «p_stride» (length (now pred)) ⌝ }
-    ensures { λ _. ⌜ now (plane .exit) ≡ putSquare 8 off stride (sumOver (now (pred .entry)) «p_off» «p_stride» (λ _ _. pos 0)) (now (plane .entry)) ⌝ }
+    ensures { λ _. ⌜ now (plane .exit) ≡ putSquare 8 off stride
+        (sumOver (now (pred .entry)) «p_off» «p_stride» (λ _ _. pos 0)) (now (plane .entry)) ⌝ }
 {
     for y in 0..8 {
         copy_eight(

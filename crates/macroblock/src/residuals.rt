@@ -7,7 +7,8 @@ ghost use Rattle.macroblock.specs.inner.Blocks.{Transformed, Coded, firs
 use residual::inverse::inverse_blocks;
 use transform_8x8::inverse::inverse_8x8_blocks;
 
-// The residuals of a record's numbers, which of their quads have a coefficient, and whether each block is in range: kind 1 has luma blocks of 64 coefficients, all others have sixteen.
+// The residuals of a record's numbers, which of their quads have a coefficient, and whether each block is in range: kind 1 has luma blocks of 64
+// coefficients, all others have sixteen.
 pub(crate) fn residuals_of(kind: u8, numbers: &[i32], out: &mut [i16], coded: &mut [u8]) -> bool
     requires { ⌜ (length (now numbers) ≡ 384) × (length (now out) ≡ 384) × (length (now coded) ≡ 6) ⌝ }
     ensures { λ r. ⌜ r ≡ (lumaInRange kind (now (numbers .entry)) && chromaInRange (now (numbers .entry))) ⌝ }

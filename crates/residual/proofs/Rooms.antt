@@ -44,12 +44,6 @@ room n pl po ps rl ro rs y e h =
       rec-row = omega (arith, leb-true (ro + (n - 1) * rs + n) rl (abcd .1));
     }
 
--- the other way
-pub room-of : (n pl po ps rl ro rs : ℕ) → ps ≤ 4096 → n ≤ rs → rs ≤ 4096 → po + (n - 1) * ps + n ≤ pl → ro + (n - 1) * rs + n ≤ rl → intoRoom n pl po ps rl ro rs ≡ true
-unfolding intoRoom
-room-of n pl po ps rl ro rs a b c p r =
-    and-of (and-of (and-of (and-of (le-leb ps 4096 a) (le-leb n rs b)) (le-leb rs 4096 c)) (le-leb (po + (n - 1) * ps + n) pl p)) (le-leb (ro + (n - 1) * rs + n) rl r)
-
 -- ---- the answer of a call into a plane, from the answer for its numbers alone
 module _ {list : ℕ} (sixteen numbers room : Bool) (e : list ≡ answer (2 unless sixteen ∷ 8 unless numbers ∷ [])) where
   pub no-list : list ≡ 2 → 2 ≡ answer (2 unless sixteen ∷ 2 unless room ∷ 8 unless numbers ∷ [])

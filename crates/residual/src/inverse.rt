@@ -183,24 +183,39 @@ fn invert_quads(list: &[i32], out: &mut [i16], coded: &[u8]) -> bool
     good
 }
 
-// A guess that no quad has an easy form, by two of the coefficients that come first in the scan. Where it holds all blocks are made in one loop.
+// A guess that no quad has an easy form. Where it holds all blocks are made in one loop.
 fn dense(list: &[i32], n: usize) -> bool
     requires { ⌜ length (now list) ≡ 64 * n ⌝ }
 {
     for q in 0..n {
-        if list[64 * q + 1] == 0 {
-            if list[64 * q + 4] == 0 {
-                return false;
-            }
+        if may_be_easy(&list[64 * q..]) {
+            return false;
         }
     }
     true
 }
 
+// Whether a quad may have an easy form, by four of the coefficients that are most likely to be other than 0.
+fn may_be_easy(d: &[i32]) -> bool
+    requires { ⌜ 64 ≤ length (now d) ⌝ }
+{
+    if d[1] != 0 {
+        return false;
+    }
+    if d[4] != 0 {
+        return false;
+    }
+    if d[17] != 0 {
+        return false;
+    }
+    d[20] == 0
+}
+
 // The residuals of the first 64 numbers of a list over the first 64 places of `out`, and whether their four blocks are in range. Where no number but the
 // first of each block is other than 0 the residuals of a block are equal, and where none is they are 0.
 fn invert_quad(some: bool, d: &[i32], out: &mut [i16]) -> bool
-    requires { ⌜ (64 ≤ length (now d)) × (64 ≤ length (now out)) × (allInRange (now d) ≡ true) × (some ≡ false → allBelow 64 (λ k. isZero (at (now d) k)) ≡ true) ⌝ }
+    requires { ⌜ (64 ≤ length (now d)) × (64 ≤ length (now out)) × (allInRange (now d) ≡ true)
+        × (some ≡ false → allBelow 64 (λ k. isZero (at (now d) k)) ≡ true) ⌝ }
     ensures { λ r. ⌜ r ≡ quadInRange (now (d .entry)) ⌝ }
     ensures { λ _. ⌜ now (out .exit) ≡ quadInverse (now (d .entry)) ++ drop 64 (now (out .entry)) ⌝ }
 {
@@ -214,15 +229,12 @@ fn invert_quad(some: bool, d: &[i32], out: &mut [i16]) -> bool
     invert_all(&d[..64], &mut out[..64])
 }
 
-// Whether no number but the first of each block is other than 0. The two that are looked at first are those most likely to be.
+// Whether no number but the first of each block is other than 0.
 fn only_firsts(d: &[i32]) -> bool
     requires { ⌜ 64 ≤ length (now d) ⌝ }
     ensures { λ r. ⌜ (r ≡ true → OnlyFirsts 16 (now (d .entry))) ⌝ }
 {
-    if d[1] != 0 {
-        return false;
-    }
-    if d[4] != 0 {
+    if !may_be_easy(d) {
         return false;
     }
     let mut x = no_span();

@@ -225,46 +225,6 @@ pub fn add_residual_4x4_into(
     put_checked(list, &narrowed, pred, p_off, p_stride, rec, r_off, r_stride)
 }
 
-// A block of side 4m in the same way, m from 1 to 4, from residuals of sixteen bits in raster order: no such number is out of range.
-pub fn add_residual_into(
-    m: usize,
-    res: &[i16],
-    pred: &[u8],
-    p_off: usize,
-    p_stride: usize,
-    rec: &mut [u8],
-    r_off: usize,
-    r_stride: usize,
-) -> u32
-    ensures { λ r. ⌜ r ≡ answer (2 unless (leb 1 m && leb m 4) ∷ 2 unless eqb (length (now (res .entry))) (4 * m * (4 * m))
-        ∷ 2 unless intoRoom (4 * m) (length (now (pred .entry))) «p_off» «p_stride» (length (now (rec .entry))) «r_off» «r_stride» ∷ []) ⌝ }
-    ensures { λ r. ⌜ now (rec .exit) ≡ written r (now (rec .entry))
-        (putSquare (4 * m) «r_off» «r_stride» (sumIn (4 * m) (now (res .entry)) (now (pred .entry)) «p_off» «p_stride») (now (rec .entry))) ⌝ }
-{
-    if m < 1 {
-        return 2;
-    }
-    if m > 4 {
-        return 2;
-    }
-    if res.len() != 4 * m * (4 * m) {
-        return 2;
-    }
-    if !into_room(
-        4 * m,
-        pred.len(),
-        p_off,
-        p_stride,
-        rec.len(),
-        r_off,
-        r_stride,
-    ) {
-        return 2;
-    }
-    put_rows(m, res, pred, p_off, p_stride, rec, r_off, r_stride);
-    0
-}
-
 // What the three calls on sixteen numbers share: the answer, and the sums where it is 0. `list` is the answer for the numbers alone, 0, 2 or 8, and only
 // where it is 0 must `res` be their residuals.
 fn put_checked(
@@ -291,7 +251,7 @@ fn put_checked(
         return 2;
     }
     if list == 0 {
-        put_rows(1, res, pred, p_off, p_stride, rec, r_off, r_stride);
+        put_rows(res, pred, p_off, p_stride, rec, r_off, r_stride);
     }
     list
 }
@@ -338,7 +298,6 @@ fn rows_in(n: usize, len: usize, off: usize, stride: usize) -> bool
 
 // The sums put into the plane, each row through its own part.
 fn put_rows(
-    m: usize,
     res: &[i16],
     pred: &[u8],
     p_off: usize,
@@ -347,48 +306,30 @@ fn put_rows(
     r_off: usize,
     r_stride: usize,
 )
-    requires { ⌜ (m ≤ 4) × (length (now res) ≡ 4 * m * (4 * m)) ⌝ }
-    requires { ⌜ intoRoom (4 * m) (length (now pred)) «p_off» «p_stride» (length (now rec)) «r_off» «r_stride» ≡ true ⌝ }
+    requires { ⌜ length (now res) ≡ 16 ⌝ }
+    requires { ⌜ intoRoom 4 (length (now pred)) «p_off» «p_stride» (length (now rec)) «r_off» «r_stride» ≡ true ⌝ }
     ensures { λ _. ⌜ now (rec .exit)
-        ≡ putSquare (4 * m) «r_off» «r_stride» (sumIn (4 * m) (now (res .entry)) (now (pred .entry)) «p_off» «p_stride») (now (rec .entry)) ⌝ }
+        ≡ putSquare 4 «r_off» «r_stride» (sumIn 4 (now (res .entry)) (now (pred .entry)) «p_off» «p_stride») (now (rec .entry)) ⌝ }
 {
-    for y in 0..4 * m {
+    for y in 0..4 {
         let at = r_off + y * r_stride;
-        put_row(
-            m,
-            res,
-            4 * m * y,
-            pred,
-            p_off + y * p_stride,
-            &mut rec[at..],
-        );
+        put_four(res, 4 * y, pred, p_off + y * p_stride, &mut rec[at..]);
     }
 }
 
-// The first 4m bytes of a row, from places `k` and `p` on.
-fn put_row(m: usize, res: &[i16], k: usize, pred: &[u8], p: usize, row: &mut [u8])
-    requires { ⌜ (m ≤ 4) × (k + 4 * m ≤ length (now res)) × (p + 4 * m ≤ length (now pred)) × (4 * m ≤ length (now row)) ⌝ }
-    ensures { λ _. ⌜ now (row .exit) ≡ summed (now (res .entry)) k (now (pred .entry)) p (4 * m) (now (row .entry)) ⌝ }
+// The first four bytes of a row, from places `k` and `p` on. All four are read before one is written: the compiled code then takes them side by side.
+fn put_four(res: &[i16], k: usize, pred: &[u8], p: usize, row: &mut [u8])
+    requires { ⌜ (k + 4 ≤ length (now res)) × (p + 4 ≤ length (now pred)) × (4 ≤ length (now row)) ⌝ }
+    ensures { λ _. ⌜ now (row .exit) ≡ summed (now (res .entry)) k (now (pred .entry)) p 4 (now (row .entry)) ⌝ }
 {
-    for j in 0..m {
-        put_four(res, k, pred, p, 4 * j, row);
-    }
-}
-
-// Four bytes of a row from `x` on. All four are read before one is written: the compiled code then takes them side by side.
-fn put_four(res: &[i16], k: usize, pred: &[u8], p: usize, x: usize, row: &mut [u8])
-    requires { ⌜ (k + x + 4 ≤ length (now res)) × (p + x + 4 ≤ length (now pred)) × (x + 4 ≤ length (now row)) ⌝ }
-    ensures { λ _. ⌜ ((l : List ℕ) → now (row .entry) ≡ summed (now (res .entry)) k (now (pred .entry)) p x l
-        → now (row .exit) ≡ summed (now (res .entry)) k (now (pred .entry)) p (x + 4) l) ⌝ }
-{
-    let a = sum_at(res, k, pred, p, x);
-    let b = sum_at(res, k, pred, p, x + 1);
-    let c = sum_at(res, k, pred, p, x + 2);
-    let d = sum_at(res, k, pred, p, x + 3);
-    row[x] = a;
-    row[x + 1] = b;
-    row[x + 2] = c;
-    row[x + 3] = d;
+    let a = sum_at(res, k, pred, p, 0);
+    let b = sum_at(res, k, pred, p, 1);
+    let c = sum_at(res, k, pred, p, 2);
+    let d = sum_at(res, k, pred, p, 3);
+    row[0] = a;
+    row[1] = b;
+    row[2] = c;
+    row[3] = d;
 }
 
 // The clipped sum at place `x` of a row, whose residuals stand from `k` on and whose prediction stands from `p` on.

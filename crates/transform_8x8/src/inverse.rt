@@ -108,7 +108,8 @@ fn invert_all(list: &[i32], out: &mut [i16], coded: &[u8]) -> bool
 // The residuals of the first 64 numbers of a list over the first 64 places of `out`, and whether they are in range. Where no number but the first is other
 // than 0 the residuals are equal, and where none is they are 0.
 fn invert_block(some: bool, d: &[i32], out: &mut [i16]) -> bool
-    requires { ⌜ (64 ≤ length (now d)) × (64 ≤ length (now out)) × (allInRange (now d) ≡ true) × (some ≡ false → allBelow 64 (λ k. isZero (at (now d) k)) ≡ true) ⌝ }
+    requires { ⌜ (64 ≤ length (now d)) × (64 ≤ length (now out)) × (allInRange (now d) ≡ true)
+        × (some ≡ false → allBelow 64 (λ k. isZero (at (now d) k)) ≡ true) ⌝ }
     ensures { λ r. ⌜ r ≡ inRange8x8 (now (d .entry)) ⌝ }
     ensures { λ _. ⌜ now (out .exit) ≡ inverse8x8 (now (d .entry)) ++ drop 64 (now (out .entry)) ⌝ }
 {

@@ -14,10 +14,13 @@ use Rattle.basics.specs.Nnz.{blkIdx}
 use Rattle.maps.specs.Neighbours.{Side}
 use Rattle.macroblock.specs.Cut.{scanX, scanY, sidesOf, squareSides}
 use Rattle.maps.specs.Neighbours.Side.{A, B, D}
+use Rattle.macroblock.specs.declared.Record.{Record}
+use Rattle.macroblock.specs.declared.Strides.{Strides}
 use Rattle.macroblock.specs.declared.cut.Place.{Place}
 use Rattle.macroblock.specs.declared.cut.Sides.{Sides}
 use Rattle.macroblock.specs.Kinds.{residual4x4, residual8x8, cutFor}
 use Rattle.macroblock.specs.Rules.{used, lastMode, permittedFor}
+use Rattle.macroblock.specs.Square.{placeAt}
 
 -- for m blocks across, places and numbers answer one another
 pub record Scan (m : ℕ) : Type 0 where
@@ -94,7 +97,6 @@ pub record ChromaReady (mode base : ℕ) (p : Place) (n : ℕ) (marks : Side →
 -- the rows of a square of that side, `apart` apart from `off` on, lie in a list of n samples
 pub record RoomIn (side off apart n : ℕ) : Type 0 where
   pub inside : off + (side - 1) * apart + side ≤ n
-  pub short : apart ≤ 4096
 
 -- ---- sums of a prediction and a residual
 -- the sample in column x and row y of a square whose prediction stands from `off` on, with rows `apart` apart
@@ -116,6 +118,14 @@ abbrev pub firstFor : ℕ → ℕ
 firstFor zero = 0
 firstFor (suc zero) = 16
 firstFor (suc (suc _)) = 0
+
+-- what a call that is not refused has before it writes: macroblock (x, y) in three planes of so many samples
+pub record Prepared (x y luma cb cr : ℕ) (strides : Strides) (marks : Side → Bool) (r : Record) (residuals : List ℤ) (coded : List ℕ) : Type 0 where
+  pub in-luma : LumaReady (r .kind) (placeAt (strides .luma) y x) luma marks (r .modes) residuals
+  pub in-cb : ChromaReady (r .«chroma_mode») 16 (placeAt (strides .cb) y x) cb marks residuals
+  pub in-cr : ChromaReady (r .«chroma_mode») 20 (placeAt (strides .cr) y x) cr marks residuals
+  pub made : Transformed (firstFor (r .kind)) (r .numbers) residuals
+  pub quads : Coded residuals coded
 
 -- the residual of block b in column x and row y, and that of a larger block whose pieces are the blocks from b on
 abbrev pub inPiece : List ℤ → ℕ → ℕ → ℕ → ℤ

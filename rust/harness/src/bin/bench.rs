@@ -1,11 +1,11 @@
 //! The port and the Rust side by side in one run, on the same inputs. The Rust comes in the best forms that are known for it: with the same
 //! checks as the port and without them, and for pictures each also with a short way for blocks of no or one coefficient; the faster of the two is
-//! what the port is held against. Its 8x8 inverse is the one that the differential runs compare with. All are timed in turns, many times; what is told is the
-//! median of the ratios with the quartiles around it.
+//! what the port is held against. Its 8x8 inverse is the one that the differential runs compare with. All are timed in turns, many times; what is
+//! told is the median of the ratios with the quartiles around it.
 //!
-//! `bench FOLDER [ROUNDS [PART]]` writes table.md, headline.md and benchmark.svg into the folder, of the rows whose names have PART in them. Where valgrind is installed the table also has
-//! the instructions of each side: valgrind runs this program again with `count`, which makes each call a fixed number of times and times
-//! nothing.
+//! `bench FOLDER [ROUNDS [PART]]` writes table.md, headline.md and benchmark.svg into the folder, of the rows whose names have PART in them. Where
+//! valgrind is installed the table also has the instructions of each side: valgrind runs this program again with `count`, which makes each call a
+//! fixed number of times and times nothing.
 use harness::{bare_share, good_records, slice_map, sparse_records, Density, Memory, Random, Record};
 use jiwarbend::sys::*;
 use oracle::inverse_8x8::inverse_8x8;
@@ -782,7 +782,7 @@ fn headline(rows: &[Row]) -> String {
     let slower = |checks: bool| blocks.iter().filter(|r| r.ratio(checks).middle > 1.0).count();
     format!(
         "- Pictures that x264 coded take {} of the time of the best Rust with the same checks, and {} of the best Rust without checks 6 to 8.\n\
-         - Pictures of three sizes with as few coefficients take {} and {}, and pictures of numbers at random {} and {} of these times.\n\
+         - Pictures of three sizes with as few coefficients take {} and {},\n  and pictures of numbers at random {} and {} of these times.\n\
          - Of {} block calls {} take longer than the best Rust with the same checks, and {} longer than the Rust without checks.\n",
         range("coded", true),
         range("coded", false),

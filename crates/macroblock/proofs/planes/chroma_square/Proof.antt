@@ -34,7 +34,7 @@ predict-chroma-requires c κs =
 put-quad-requires : tie.Need-put-quad-requires
 put-quad-requires c κs =
     let u = c .before .before .before .before .before .before .before .before in
-    ((u .pre .0 .stands .block, record { inside = search needs; short = omega arith }), (u .pre .0 .four, u .pre .0 .all, u .pre .1))
+    ((u .pre .0 .stands .block, record { inside = search needs }), (u .pre .0 .four, u .pre .0 .all, u .pre .1))
 
 returns : tie.Need-returns
 unfolding upTo

@@ -22,7 +22,7 @@ here : (c : tie.In-loop Inv-loop μ-loop) → let b = c .before in let a = b .be
     AtRow 8 (a .off) (a .stride) 0 8 (b .loop .y) (a .pred .now) (a .plane .now) (b .loop .plane)
 here c =
     let u = c .before .before .before .before in
-    row-at (c .before .loop .inv) (u .pre .1) (record { inside = omega (arith, u .pre .2); short = omega arith }) (omega arith)
+    row-at (c .before .loop .inv) (u .pre .1) (record { inside = omega (arith, u .pre .2) }) (omega arith)
 
 add-eight-requires : tie.Need-add-eight-requires Inv-loop μ-loop
 add-eight-requires c κs =

@@ -63,7 +63,7 @@ put-quad-requires c κs =
     let h = here y in
     let k = b .loop .k in
     let mark = getD (u .args .coded .now) k 0 in (
-      (subst (BlockIn 8 _) (sym (same-long (b .loop .inv))) (h .block), record { inside = omega (arith, u .pre .0 .1, h .across, h .down); short = omega arith }),
+      (subst (BlockIn 8 _) (sym (same-long (b .loop .inv))) (h .block), record { inside = omega (arith, u .pre .0 .1, h .across, h .down) }),
       (
         omega arith,
         u .pre .1 .0,

@@ -15,7 +15,7 @@ add-4x4-requires c κs =
     let a = u .args in (
       omega (arith, u .pre .0 .0 .wide),
       room-at (u .pre .0 .0),
-      record { inside = omega (arith, u .pre .0 .1); short = omega arith },
+      record { inside = omega (arith, u .pre .0 .1) },
       block-long 16 (a .b) (a .residuals .now) (omega (arith, u .pre .1 .0, u .pre .1 .1)),
     )
 

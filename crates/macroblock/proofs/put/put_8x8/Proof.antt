@@ -33,7 +33,7 @@ copy-8x8-requires : tie.Need-copy-8x8-requires
 copy-8x8-requires c κs =
     let u = c .before .before .before .before .before .before .before in
     let F = u .pre .0 .0 in
-    (omega (arith, F .wide), room-at F, record { inside = omega (arith, u .pre .0 .1); short = omega arith })
+    (omega (arith, F .wide), room-at F, record { inside = omega (arith, u .pre .0 .1) })
 
 -- the residuals are all 0
 returns-2 : tie.Need-returns-2

@@ -1,5 +1,7 @@
 -- `residual::inverse::dense` meets its contract: what it looks at is in the list. Assumes nothing.
 use Prim.Native.Nat.{_-_, _≤_}
+use native.Mathlib.Omega.{arith}
+use lib.ListN.{length-take, length-drop}
 use borrow.Author.Needs.{needs}
 use Rattle.residual.proofs.inverse.dense.Statement.{statement}
 use Rattle.residual.proofs.inverse.dense.Tie as tie
@@ -9,6 +11,9 @@ Inv-loop list n q₀ q = q ≤ n
 
 abbrev μ-loop : tie.MeasureT-loop
 μ-loop list n q₀ q = n - q
+
+may-be-easy-requires : tie.Need-may-be-easy-requires Inv-loop μ-loop
+may-be-easy-requires c κs = simp (length-take, length-drop) (omega (arith, c .before .before .before .pre))
 
 pub dense-spec : {M : Type 1} → statement M
 dense-spec =
@@ -22,9 +27,7 @@ dense-spec =
     (λ c. search needs)
     (λ c. search needs)
     (λ c. search needs)
-    (λ c. search needs)
-    (λ c. search needs)
-    (λ c. search needs)
+    may-be-easy-requires
     (λ c. search needs)
     (λ c. search needs)
     (λ c. search needs)

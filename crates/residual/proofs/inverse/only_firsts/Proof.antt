@@ -22,9 +22,6 @@ abbrev μ-loop : tie.MeasureT-loop
 returns : tie.Need-returns Inv-loop μ-loop
 returns c z = absurd (not-both z refl)
 
-returns-2 : tie.Need-returns-2 Inv-loop μ-loop
-returns-2 c z = absurd (not-both z refl)
-
 loop-holds : tie.Need-loop-holds Inv-loop μ-loop
 loop-holds c = (search needs, λ e k i h. absurd (omega arith))
 
@@ -32,13 +29,13 @@ loop-again : tie.Need-loop-again Inv-loop μ-loop
 loop-again c =
     let b = c .before .before .before in
     let n = b .before in
-    let u = n .before .before .before .before .before in (
+    let u = n .before .before .before in (
       omega arith,
       rest-next (u .args .d .now) (b .loop .b) (b .loop .x) (c .with-list .result) (omega (arith, u .pre)) (c .with-list .ensures .0 (pos 0)) (c .with-list .ensures .1 (pos 0)) (b .loop .inv .1),
     )
 
-returns-3 : tie.Need-returns-3 Inv-loop μ-loop
-returns-3 c e =
+returns-2 : tie.Need-returns-2 Inv-loop μ-loop
+returns-2 c e =
     let b = c .before .before in
     record { rest = λ k i h. b .loop .inv .1 (sym (c .lies-in .ensures) ∙ e) k i (omega arith) }
 
@@ -48,10 +45,8 @@ only-firsts-spec =
     (tie.spec
     Inv-loop
     μ-loop
-    (λ c. search needs)
+    (λ c κs. search needs)
     returns
-    (λ c. search needs)
-    returns-2
     (λ c κs. search needs)
     loop-holds
     (λ c. search needs)
@@ -67,4 +62,4 @@ only-firsts-spec =
     (λ c. search needs)
     loop-again
     (λ c κs. search needs)
-    returns-3)
+    returns-2)
