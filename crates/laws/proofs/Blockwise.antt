@@ -9,21 +9,14 @@ use native.Mathlib.Omega.{arith}
 use borrow.Rule.Slice.PartMut.{putMid, midOf}
 use lib.Arith.{digits-div, digits-mod}
 use lib.IntN.{ℤ, pos}
-use lib.ListN.{length, take, drop, length-take}
-use lib.Seq.{ext-getD, getD-take}
+use lib.ListN.{length, drop}
+use lib.Seq.{ext-getD}
 use Rattle.laws.specs.Range.{at}
 use Rattle.laws.specs.Table.{table, onto, blockwise, allBelow, allBlocks}
 use Rattle.laws.proofs.Ontos.{onto-long, onto-row}
 use Rattle.laws.proofs.Stretches.{part-at}
 use Rattle.laws.proofs.Tables.{length-table, getD-table, table-same}
 use Rattle.laws.proofs.Tests.{all-next}
-
--- the first n numbers of a list
-pub take-table : (n : ℕ) (l : List ℤ) → n ≤ length l → take n l ≡ table n (at l)
-take-table n l h =
-    let long : length (take n l) ≡ n = length-take n l ∙ omega arith in
-    ext-getD (pos 0) (take n l) (table n (at l)) (long ∙ sym (length-table (pos 0) n (at l)))
-    (λ i b. let below : i < n = omega (arith, long) in getD-take n l i (pos 0) below ∙ sym (getD-table (pos 0) n (at l) i below))
 
 -- f makes n numbers of a list, from its first n numbers alone
 pub record OfBlock (n : ℕ) (f : List ℤ → List ℤ) : Type 0 where
@@ -55,7 +48,8 @@ number-in n l k some whole h = (
 )
 
 module _ (n : ℕ) (f : List ℤ → List ℤ) (F : OfBlock n f) where
-  itself : (d : List ℤ) → table n (at (f d)) ≡ f d
+  -- what f makes, number by number
+  pub itself : (d : List ℤ) → table n (at (f d)) ≡ f d
   itself d =
       ext-getD (pos 0) (table n (at (f d))) (f d) (length-table (pos 0) n (at (f d)) ∙ sym (F .long d))
       (λ i b. getD-table (pos 0) n (at (f d)) i (omega (arith, length-table (pos 0) n (at (f d)))))

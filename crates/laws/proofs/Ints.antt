@@ -14,8 +14,11 @@ use Prim.Native.Nat.{ℕ, zero, suc, _+_, _-_, _*_, _/_, _≤_, _<_, min}
 use native.Mathlib.Nat.{div-le-self, div-add-mod', mod-lt, zero-div, mul-le-mul, le-trans, le-refl}
 use native.Mathlib.Omega.{arith}
 use borrow.Author.Tests.{ltb-true, ltb-false}
+use borrow.Rule.Slice.PartMut.{midOf}
 use lib.Dec.{T, ltb, leb, ltb→lt, nltb→le, leb→le}
 use lib.IntN.{ℤ, pos, negsuc, natAbs, negℤ, subℕ, _+ℤ_, _*ℤ_}
+use lib.ListN.{take, drop}
+use lib.Seq.{getD-drop}
 use lib.Signed.{shrZ, ltZ, nonNeg}
 use mir.Syntax.{w8, w16, w32}
 use mir.Val.{SFits, Fits, toZ, ofZ}
@@ -167,6 +170,17 @@ table-at k (suc n) f h (suc m) = table-at k n (λ i. f (suc i)) (λ i l. h (suc 
 
 pub within-table : (k n : ℕ) (f : ℕ → ℤ) → ((i : ℕ) → i < n → Within k (f i)) → AllWithin k (table n f)
 within-table k n f h = record { each = table-at k n f h }
+
+-- and a part of a list that is
+within-take : (k n : ℕ) (l : List ℤ) → AllWithin k l → (i : ℕ) → Within k (at (take n l) i)
+within-take k zero l w i = record { within = omega arith }
+within-take k (suc n) [] w i = record { within = omega arith }
+within-take k (suc n) (z ∷ l) w zero = w .each 0
+within-take k (suc n) (z ∷ l) w (suc i) = within-take k n l (record { each = λ j. w .each (suc j) }) i
+
+pub within-part : (k a n : ℕ) (l : List ℤ) → AllWithin k l → AllWithin k (midOf a n l)
+within-part k a n l w =
+    record { each = within-take k n (drop a l) (record { each = λ j. subst (Within k) (sym (getD-drop a l j (pos 0))) (w .each (a + j)) }) }
 
 -- a list of four numbers, for a function that returns an array of four
 pub four-is : {a b c d x y z w : ℤ} → a ≡ x → b ≡ y → c ≡ z → d ≡ w → (a ∷ b ∷ c ∷ d ∷ []) ≡ (x ∷ y ∷ z ∷ w ∷ [])

@@ -164,21 +164,6 @@ all-both (suc n) f g = swapped (allBelow n f) (f n) (allBelow n g) (g n) ∙ ap 
     swapped true false false d = refl
     swapped false b c d = refl
 
--- four tests after another one
-pub all-four : (t : Bool) (f : ℕ → Bool) → t && f 0 && f 1 && f 2 && f 3 ≡ t && allBelow 4 f
-unfolding allBelow
-all-four true f = refl
-all-four false f = refl
-
--- and eight, four at a time
-pub all-eight : (t : Bool) (f : ℕ → Bool) → t && allBelow 4 f && allBelow 4 (λ k. f (4 + k)) ≡ t && allBelow 8 f
-unfolding allBelow
-all-eight t f = sym (all-four (t && allBelow 4 f) (λ k. f (4 + k))) ∙ ap (λ u. u && f 4 && f 5 && f 6 && f 7) (sym (all-four t f)) ∙ all t
-  where
-    all : (t : Bool) → t && f 0 && f 1 && f 2 && f 3 && f 4 && f 5 && f 6 && f 7 ≡ t && allBelow 8 f
-    all true = refl
-    all false = refl
-
 -- the places below m + n, those below m first
 pub all-split : (m n : ℕ) (f : ℕ → Bool) → allBelow (m + n) f ≡ allBelow m f && allBelow n (λ k. f (m + k))
 unfolding allBelow

@@ -12,7 +12,7 @@ use Rattle.laws.specs.Range.{at}
 use Rattle.laws.specs.Table.{blockOf}
 use Rattle.laws.proofs.Ints.{within-more}
 use Rattle.laws.proofs.Tables.{getD-table, length-table, table-same, table-const}
-use Rattle.laws.proofs.Tests.{true-T, T-true, same-test, and-of, all-of}
+use Rattle.laws.proofs.Tests.{true-T, T-true, same-test, and-of}
 use Rattle.basics.specs.Clip.{Clip1}
 use Rattle.residual.specs.Agreement.{Agreement, lone, into, square}
 use Rattle.residual.specs.Inverse.{firstStep, secondStep, rounded, eRow, fRow, gColumn, hColumn, inverse4x4, inRange4x4}
@@ -69,8 +69,8 @@ module _ (v : ℤ) where
   unfolding inRange allInRange
   passes e =
       let i = last-in-range v e in
-      sym (told (lone v) (and-of i refl))
-      ∙ and-of (all-of 4 _ (λ i h. all-of 4 _ (row i h))) (all-of 4 _ (λ j h. all-of 4 _ (λ i l. ap (λ c. lastInRange (at c i)) (h-all j h) ∙ ap lastInRange (getD-replicate 4 i v (pos 0) l) ∙ e)))
+      told (lone v) (and-of i refl) (λ i j h l. row i h j l)
+      (λ i j l h. ap (λ c. lastInRange (at c i)) (h-all j h) ∙ ap lastInRange (getD-replicate 4 i v (pos 0) l) ∙ e)
     where
       row : (i : ℕ) → i < 4 → (j : ℕ) → j < 4 → inRange (at (fRow (lone v) i) j) ≡ true
       row zero h j l = ap (λ f. inRange (at f j)) f-first ∙ ap inRange (getD-replicate 4 j v (pos 0) l) ∙ last-in-range v e

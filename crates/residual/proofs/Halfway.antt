@@ -1,5 +1,5 @@
 -- The range of a 4x4 block: what is tested of it tells of every value that the clause names, and each of them then has sixteen bits. Assumes nothing.
-use mathlib.Core.Path.{_≡_, ap, ap₂, _∙_}
+use mathlib.Core.Path.{_≡_, ap, ap₂}
 use mathlib.Core.Bool.{Bool, true, _&&_}
 use mathlib.Core.List.{List}
 use Prim.Native.Nat.{ℕ, zero, suc, _/_, _%_, _<_}
@@ -11,8 +11,7 @@ use Rattle.laws.specs.Range.{at}
 use Rattle.laws.specs.Table.{allBelow}
 use Rattle.laws.proofs.Blockwise.{TestOfBlock}
 use Rattle.laws.proofs.Ints.{within-table}
-use Rattle.laws.proofs.Tests.{true-T, T-true, same-test, and-left, and-right, and-both, and-of, and-assoc, all-at, all-of, all-same, all-four}
-use Rattle.residual.specs.Extents.{allOfFour}
+use Rattle.laws.proofs.Tests.{and-left, and-right, and-both, and-of, all-at, all-of, all-same}
 use Rattle.residual.specs.Fits4x4.{Fits4x4}
 use Rattle.residual.specs.Inverse.{secondStep, eRow, fRow, gColumn, hColumn, inverse4x4, inRange4x4}
 use Rattle.residual.specs.Numbers.{inRange, allInRange, lastInRange}
@@ -30,28 +29,6 @@ step-told e w (suc (suc (suc zero))) h = halves (e 0) (e 3) (w 0 (lit< tt)) (w 3
 step-told e w (suc (suc (suc (suc n)))) h = absurd (omega arith)
 
 module _ (d : List ℤ) where
-  -- what is tested: the rows and the columns, each after its second step
-  abbrev pub rows : Bool
-  rows = allBelow 4 (λ i. allOfFour inRange (fRow d i))
-
-  abbrev pub columns : Bool
-  columns = allBelow 4 (λ j. allOfFour lastInRange (hColumn d j))
-
-  module _ (r : rows ≡ true) (c : columns ≡ true) where
-    f-in : (i j : ℕ) → i < 4 → j < 4 → inRange (at (fRow d i) j) ≡ true
-    f-in i j hi hj = all-at 4 _ (all-at 4 _ r i hi) j hj
-
-    e-in : (i j : ℕ) → i < 4 → j < 4 → inRange (at (eRow d i) j) ≡ true
-    unfolding fRow
-    e-in i j hi hj = step-told (at (eRow d i)) (λ n h. f-in i n hi h) j hj
-
-    h-in : (i j : ℕ) → i < 4 → j < 4 → lastInRange (at (hColumn d j) i) ≡ true
-    h-in i j hi hj = all-at 4 _ (all-at 4 _ c j hj) i hi
-
-    g-in : (i j : ℕ) → i < 4 → j < 4 → inRange (at (gColumn d j) i) ≡ true
-    unfolding hColumn
-    g-in i j hi hj = step-told (at (gColumn d j)) (λ n h. last-in-range _ (h-in n j h hj)) i hi
-
   -- what the range says, value by value
   pub record InRange : Type 0 where
     pub d-in : (k : ℕ) → k < 16 → inRange (at d k) ≡ true
@@ -96,30 +73,19 @@ module _ (d : List ℤ) where
       and-of (and-of (all-of 16 _ (s .d-in)) (all-of 4 _ (λ i hi. all-of 4 _ (λ j hj. and-of (s .e-in i j hi hj) (s .f-in i j hi hj)))))
       (all-of 4 _ (λ j hj. all-of 4 _ (λ i hi. and-of (s .g-in i j hi hj) (s .h-in i j hi hj))))
 
-  -- of coefficients in range, what is tested tells all
-  pub told : allInRange d ≡ true → rows && columns ≡ inRange4x4 d
-  told ok =
-      same-test (rows && columns) (inRange4x4 d)
-      (λ t.
-      let e = T-true (rows && columns) t in
-      let r = and-left rows columns e in
-      let c = and-right rows columns e in
-      true-T (inRange4x4 d) (said (record { d-in = λ k _. numbers.all-at d k ok; e-in = e-in r c; f-in = f-in r c; g-in = g-in r c; h-in = h-in r c })))
-      (λ t.
-      let s = says (T-true (inRange4x4 d) t) in
-      true-T (rows && columns) (and-of (all-of 4 _ (λ i hi. all-of 4 _ (λ j hj. s .f-in i j hi hj))) (all-of 4 _ (λ j hj. all-of 4 _ (λ i hi. s .h-in i j hi hj)))))
+  -- of coefficients in range, the values after each pass tell all
+  module _ (ok : allInRange d ≡ true) (f : (i j : ℕ) → i < 4 → j < 4 → inRange (at (fRow d i) j) ≡ true)
+      (h : (i j : ℕ) → i < 4 → j < 4 → lastInRange (at (hColumn d j) i) ≡ true) where
+    e-told : (i j : ℕ) → i < 4 → j < 4 → inRange (at (eRow d i) j) ≡ true
+    unfolding fRow
+    e-told i j hi hj = step-told (at (eRow d i)) (λ n b. f i n hi b) j hj
 
-  -- as the extents of the rows and of the columns tell it, one after the other
-  pub told-after : (t : Bool) (f0 f1 f2 f3 h0 h1 h2 h3 : List ℤ) → allInRange d ≡ true → f0 ≡ fRow d 0 → f1 ≡ fRow d 1 → f2 ≡ fRow d 2 → f3 ≡ fRow d 3
-      → h0 ≡ hColumn d 0 → h1 ≡ hColumn d 1 → h2 ≡ hColumn d 2 → h3 ≡ hColumn d 3
-      → t && allOfFour inRange f0 && allOfFour inRange f1 && allOfFour inRange f2 && allOfFour inRange f3
-      && allOfFour lastInRange h0 && allOfFour lastInRange h1 && allOfFour lastInRange h2 && allOfFour lastInRange h3 ≡ t && inRange4x4 d
-  told-after t f0 f1 f2 f3 h0 h1 h2 h3 ok p0 p1 p2 p3 q0 q1 q2 q3 =
-      rw (p0, p1, p2, p3, q0, q1, q2, q3)
-      (all-four (t && allOfFour inRange (fRow d 0) && allOfFour inRange (fRow d 1) && allOfFour inRange (fRow d 2) && allOfFour inRange (fRow d 3))
-      (λ j. allOfFour lastInRange (hColumn d j))
-      ∙ ap (λ u. u && columns) (all-four t (λ i. allOfFour inRange (fRow d i)))
-      ∙ and-assoc t rows columns ∙ ap (λ u. t && u) (told ok))
+    g-told : (i j : ℕ) → i < 4 → j < 4 → inRange (at (gColumn d j) i) ≡ true
+    unfolding hColumn
+    g-told i j hi hj = step-told (at (gColumn d j)) (λ n b. last-in-range _ (h n j b hj)) i hi
+
+    pub told : inRange4x4 d ≡ true
+    told = said (record { d-in = λ k _. numbers.all-at d k ok; e-in = e-told; f-in = f; g-in = g-told; h-in = h })
 
   -- a block in range has its numbers in range
   pub in-numbers : length d ≡ 16 → inRange4x4 d ≡ true → allInRange d ≡ true

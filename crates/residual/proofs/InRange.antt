@@ -1,6 +1,6 @@
 -- Numbers in range: what a list of them says of each, and how a loop shows it. Assumes nothing.
-use mathlib.Core.Path.{_≡_, refl, sym, ap, ap₂, _∙_, subst}
-use mathlib.Core.Bool.{Bool, true, false, cond, _&&_}
+use mathlib.Core.Path.{_≡_, refl, ap, _∙_}
+use mathlib.Core.Bool.{true, false, _&&_}
 use mathlib.Core.List.{List, [], _∷_}
 use Prim.Native.Nat.{ℕ, zero, suc, _+_, _<_, _≤_}
 use native.Mathlib.Omega.{arith}
@@ -9,17 +9,14 @@ use borrow.Rule.Slice.PartMut.{midOf}
 use lib.Dec.{leb}
 use lib.IntN.{ℤ, pos, negsuc, negℤ, _+ℤ_, _-ℤ_}
 use lib.ListN.{length, drop, length-take}
-use lib.Signed.{leZ, ltZ}
-use mir.Facts.{toZ-ofZ}
-use mir.Syntax.{w16, w32}
-use mir.Val.{SFits, toZ, ofZ}
+use lib.Signed.{leZ}
+use mir.Syntax.{w16}
+use mir.Val.{SFits}
 use Rattle.laws.specs.Range.{Within, AllWithin, at, minus}
-use Rattle.laws.specs.Table.{allBelow}
 use Rattle.laws.proofs.Stretches.{part-at}
-use Rattle.laws.proofs.Ints.{up, dn, parts-add, parts-neg, parts-pos, lt-parts, ge-parts}
+use Rattle.laws.proofs.Ints.{up, dn, parts-add, parts-neg, parts-pos}
 use Rattle.laws.proofs.Tests as tests
-use Rattle.laws.proofs.Tests.{true-T, T-true, not-both, same-test, and-left, and-right, and-of, and-no, choose, all-of, all-both, all-after}
-use Rattle.residual.specs.declared.numbers.Span.{Span}
+use Rattle.laws.proofs.Tests.{true-T, T-true, same-test, and-left, and-right, and-of, and-no, all-of}
 use Rattle.residual.specs.Numbers.{inRange, allInRange, allOf, lastInRange}
 
 pub in-range-within : (z : ℤ) → inRange z ≡ true → Within 32768 z
@@ -68,6 +65,11 @@ unfolding inRange
 within-in-range (pos n) h = le-leb n 32767 (omega (arith, h .within))
 within-in-range (negsuc n) h = and-of (le-leb n 32767 (omega (arith, h .within))) refl
 
+pub within-last : (z : ℤ) → Within 32735 z → lastInRange z ≡ true
+unfolding lastInRange
+within-last (pos n) h = le-leb n 32735 (omega (arith, h .within))
+within-last (negsuc n) h = and-of (le-leb n 32767 (omega (arith, h .within))) refl
+
 -- every number of a list in range is in range, and so is the 0 past its end
 pub all-at : (s : List ℤ) (k : ℕ) → allInRange s ≡ true → inRange (at s k) ≡ true
 unfolding inRange allInRange
@@ -96,70 +98,6 @@ unfolding inRange allInRange
 all-false [] k e = e
 all-false (z ∷ s) zero e = rw e
 all-false (z ∷ s) (suc k) e = and-no (inRange z) (allInRange s) (all-false s k e)
-
--- ---- what is at most the less of two numbers, and what the greater is at most
-le-parts : (x y : ℤ) → leZ x y ≡ true → up x + dn y ≤ up y + dn x
-unfolding up dn
-le-parts (pos a) (pos b) e = omega (arith, leb-true a b e)
-le-parts (pos a) (negsuc b) e = absurd (not-both e refl)
-le-parts (negsuc a) (pos b) e = omega arith
-le-parts (negsuc a) (negsuc b) e = omega (arith, leb-true b a e)
-
-parts-le : (x y : ℤ) → up x + dn y ≤ up y + dn x → leZ x y ≡ true
-unfolding up dn
-parts-le (pos a) (pos b) h = le-leb a b (omega arith)
-parts-le (pos a) (negsuc b) h = absurd (omega arith)
-parts-le (negsuc a) (pos b) h = refl
-parts-le (negsuc a) (negsuc b) h = le-leb b a (omega arith)
-
-first : (p q : Bool) → (p ≡ true → q ≡ true) → p ≡ p && q
-first true q h = sym (h refl)
-first false q h = refl
-
-second : (p q : Bool) → (q ≡ true → p ≡ true) → q ≡ p && q
-second true q h = refl
-second false true h = sym (h refl)
-second false false h = refl
-
-pub least-tells : (z a b : ℤ) → leZ z (cond (ltZ b a) b a) ≡ leZ z a && leZ z b
-least-tells z a b =
-    choose (λ c. leZ z c ≡ leZ z a && leZ z b) (ltZ b a) b a
-    (λ e. second (leZ z a) (leZ z b) (λ h. parts-le z a (omega (arith, le-parts z b h, lt-parts b a e))))
-    (λ e. first (leZ z a) (leZ z b) (λ h. parts-le z b (omega (arith, le-parts z a h, ge-parts b a e))))
-
-pub greatest-tells : (z a b : ℤ) → leZ (cond (ltZ a b) b a) z ≡ leZ a z && leZ b z
-greatest-tells z a b =
-    choose (λ c. leZ c z ≡ leZ a z && leZ b z) (ltZ a b) b a
-    (λ e. second (leZ a z) (leZ b z) (λ h. parts-le a z (omega (arith, le-parts b z h, lt-parts a b e))))
-    (λ e. first (leZ a z) (leZ b z) (λ h. parts-le b z (omega (arith, le-parts a z h, ge-parts a b e))))
-
--- how a loop that keeps the least, or the greatest, of the numbers passed goes on to number i, and back through the machine's word
-pub kept : (t : Bool) (a b r : ℤ) → SFits w32 a → SFits w32 b → r ≡ cond t b a → SFits w32 (toZ w32 (ofZ w32 r)) × (toZ w32 (ofZ w32 r) ≡ cond t b a)
-kept t a b r fa fb e =
-    let f : SFits w32 r = subst (SFits w32) (sym e) (choose (SFits w32) t b a (λ _. fb) (λ _. fa)) in
-    (subst (SFits w32) (sym (toZ-ofZ f)) f, toZ-ofZ f ∙ e)
-
--- t tells of what was passed before the list
-module _ (s : List ℤ) (i : ℕ) (a r : ℤ) (t : ℤ → Bool) (fa : SFits w32 a) (fb : SFits w32 (at s i)) where
-  pub least-next : ((z : ℤ) → leZ z a ≡ t z && allBelow i (λ k. leZ z (at s k))) → r ≡ cond (ltZ (at s i) a) (at s i) a
-      → SFits w32 (toZ w32 (ofZ w32 r)) × ((z : ℤ) → leZ z (toZ w32 (ofZ w32 r)) ≡ t z && allBelow (i + 1) (λ k. leZ z (at s k)))
-  least-next h e =
-      let (f, k) = kept (ltZ (at s i) a) a (at s i) r fa fb e in
-      (f, λ z. ap (leZ z) k ∙ least-tells z a (at s i) ∙ all-after (leZ z a) (t z) (leZ z (at s i)) i (λ k. leZ z (at s k)) (h z) refl)
-
-  pub greatest-next : ((z : ℤ) → leZ a z ≡ t z && allBelow i (λ k. leZ (at s k) z)) → r ≡ cond (ltZ a (at s i)) (at s i) a
-      → SFits w32 (toZ w32 (ofZ w32 r)) × ((z : ℤ) → leZ (toZ w32 (ofZ w32 r)) z ≡ t z && allBelow (i + 1) (λ k. leZ (at s k) z))
-  greatest-next h e =
-      let (f, k) = kept (ltZ a (at s i)) a (at s i) r fa fb e in
-      (f, λ z. ap (λ y. leZ y z) k ∙ greatest-tells z a (at s i) ∙ all-after (leZ a z) (t z) (leZ (at s i) z) i (λ k. leZ (at s k) z) (h z) refl)
-
--- a list lies between two numbers around 0 where its span does
-pub lies : (s : List ℤ) (low high : ℤ) (x r : Span) → leZ low (pos 0) ≡ true → leZ (pos 0) high ≡ true → (x .low ≡ pos 0) × (x .high ≡ pos 0)
-    → leZ low (r .low) ≡ leZ low (x .low) && allOf (leZ low) s → leZ (r .high) high ≡ leZ (x .high) high && allOf (λ z. leZ z high) s
-    → leZ low (r .low) && leZ (r .high) high ≡ allOf (λ z. leZ low z && leZ z high) s
-lies s low high x r p q (e, f) l h =
-    ap₂ _&&_ (l ∙ ap (λ t. t && allOf (leZ low) s) (ap (leZ low) e ∙ p)) (h ∙ ap (λ t. t && allOf (λ z. leZ z high) s) (ap (λ z. leZ z high) f ∙ q))
-    ∙ all-both (length s) (λ k. leZ low (at s k)) (λ k. leZ (at s k) high)
 
 -- the test of a list is that of each of its numbers
 pub in-range-all : (s : List ℤ) → allOf inRange s ≡ allInRange s

@@ -1,9 +1,10 @@
 -- The quads of a list: four blocks each, their marks, and the two easy forms, where no number but the first of each block is other than 0. Assumes nothing.
 use mathlib.Core.Path.{_≡_, refl, sym, ap, ap₂, _∙_}
 use mathlib.Core.Bool.{Bool, true, false, cond, _&&_}
-use mathlib.Core.List.{List, [], _∷_}
+use mathlib.Core.List.{List, _∷_}
 use Prim.Native.Nat.{ℕ, zero, suc, _+_, _*_, _-_, _/_, _%_, _<_, _≤_}
 use native.Mathlib.Decide.{decLt}
+use native.Mathlib.Nat.{zero-add}
 use native.Mathlib.Omega.{arith}
 use borrow.Author.Tests.{leb-true}
 use borrow.Rule.Slice.PartMut.{midOf, mid-len}
@@ -15,11 +16,10 @@ use Rattle.laws.specs.Table.{table, blockwise, allBelow, allBlocks}
 use Rattle.laws.proofs.Blockwise.{OfBlock, TestOfBlock, blockAt, testAt}
 use Rattle.laws.proofs.Stretches.{part-at}
 use Rattle.laws.proofs.Tables.{length-table, getD-table, table-same, table-const}
-use Rattle.laws.proofs.Tests.{not-both, and-left, and-right, and-both, and-of, all-at, all-of, all-same, all-groups}
-use Rattle.residual.specs.declared.numbers.Span.{Span}
+use Rattle.laws.proofs.Tests.{not-both, and-left, and-right, and-both, all-at, all-of, all-same, all-groups}
 use Rattle.residual.specs.Agreement.{lone}
 use Rattle.residual.specs.Inverse.{rounded, inverse4x4, inRange4x4}
-use Rattle.residual.specs.Numbers.{inRange, allInRange, allOf, isZero, lastInRange}
+use Rattle.residual.specs.Numbers.{inRange, allInRange, allOf, isZero, isSmall, lastInRange}
 use Rattle.residual.specs.Quads.{codedQuad}
 use Rattle.residual.specs.inner.Quads.{quadInverse, quadInRange, OnlyFirsts}
 use Rattle.residual.proofs.Agreement.{agreement}
@@ -45,7 +45,7 @@ kth : (d : List ℤ) (k : ℕ) → k < 64 → at (table 64 (at d)) k ≡ at d k
 kth d k h = getD-table (pos 0) 64 (at d) k h
 
 -- what stands at place k of a quad's residuals, and whether its blocks are in range
-inverse-at : (d : List ℤ) (k : ℕ) → k < 64 → at (quadInverse d) k ≡ at (inverse4x4 (table 16 (λ i. at d (k / 16 * 16 + i)))) (k % 16)
+pub inverse-at : (d : List ℤ) (k : ℕ) → k < 64 → at (quadInverse d) k ≡ at (inverse4x4 (table 16 (λ i. at d (k / 16 * 16 + i)))) (k % 16)
 unfolding quadInverse
 inverse-at d k h =
     getD-table (pos 0) (length (table 64 (at d))) (blockAt 16 inverse4x4 (table 64 (at d))) k (omega (arith, length-table (pos 0) 64 (at d)))
@@ -97,49 +97,65 @@ zero-is (pos zero) e = refl
 zero-is (pos (suc n)) e = let h : suc n ≤ 0 = leb-true (suc n) 0 (and-right (leZ (pos 0) (pos (suc n))) (leZ (pos (suc n)) (pos 0)) e) in absurd (omega arith)
 zero-is (negsuc n) e = absurd (not-both e refl)
 
--- the mark of a quad says so
+-- the mark of a quad says so, and whether its numbers are small
 pub uncoded : (l : List ℤ) (q : ℕ) → codedQuad l q ≡ 0 → allBelow 64 (λ k. isZero (at l (64 * q + k))) ≡ true
 unfolding codedQuad
-uncoded l q e = go (allBelow 64 (λ k. isZero (at l (64 * q + k)))) e
+uncoded l q e = go (allBelow 64 (λ k. isZero (at l (64 * q + k)))) (allBelow 64 (λ k. isSmall (at l (64 * q + k)))) e
   where
-    go : (b : Bool) → _≡_ {A = ℕ} (cond b 0 1) 0 → b ≡ true
-    go true e = refl
-    go false e = absurd (omega arith)
+    go : (b s : Bool) → _≡_ {A = ℕ} (cond b 0 (cond s 1 2)) 0 → b ≡ true
+    go true s e = refl
+    go false true e = absurd (omega arith)
+    go false false e = absurd (omega arith)
+
+pub coded-small : (l : List ℤ) (q : ℕ) → codedQuad l q ≡ 1 → allBelow 64 (λ k. isSmall (at l (64 * q + k))) ≡ true
+unfolding codedQuad
+coded-small l q e = go (allBelow 64 (λ k. isZero (at l (64 * q + k)))) (allBelow 64 (λ k. isSmall (at l (64 * q + k)))) e
+  where
+    go : (b s : Bool) → _≡_ {A = ℕ} (cond b 0 (cond s 1 2)) 1 → s ≡ true
+    go true s e = absurd (omega arith)
+    go false true e = refl
+    go false false e = absurd (omega arith)
+
+-- the same of the first quad
+pub first-uncoded : (d : List ℤ) → codedQuad d 0 ≡ 0 → allBelow 64 (λ k. isZero (at d k)) ≡ true
+first-uncoded d e = all-same 64 _ _ (λ k _. ap (λ n. isZero (at d n)) (sym (zero-add k))) ∙ uncoded d 0 e
+
+pub first-small : (d : List ℤ) → codedQuad d 0 ≡ 1 → allBelow 64 (λ k. isSmall (at d k)) ≡ true
+first-small d e = all-same 64 _ _ (λ k _. ap (λ n. isSmall (at d n)) (sym (zero-add k))) ∙ coded-small d 0 e
+
+-- it is that of the part of the list from the quad on
+pub coded-part : (l : List ℤ) (q : ℕ) → 64 * q + 64 ≤ length l → codedQuad l q ≡ codedQuad (midOf (64 * q) (length l - 64 * q) l) 0
+unfolding codedQuad
+coded-part l q h =
+    let part = midOf (64 * q) (length l - 64 * q) l in
+    let same : (k : ℕ) → k < 64 → at l (64 * q + k) ≡ at part (0 + k)
+    = λ k g. sym (ap (at part) (zero-add k) ∙ part-at (pos 0) l (64 * q) (length l - 64 * q) k (omega arith)) in
+    ap₂ (λ (b s : Bool). cond b 0 (cond s 1 2)) (all-same 64 _ _ (λ k g. ap isZero (same k g))) (all-same 64 _ _ (λ k g. ap isSmall (same k g)))
 
 pub zero-firsts : (d : List ℤ) → allBelow 64 (λ k. isZero (at d k)) ≡ true → OnlyFirsts 16 d
 zero-firsts d e = record { rest = λ b i h p g. zero-is (at d (16 * b + i)) (all-at 64 (λ k. isZero (at d k)) e (16 * b + i) (omega arith)) }
 
--- a span that holds 0 alone
-abbrev pub allZero : Span → Bool
-allZero x = leZ (pos 0) (x .low) && leZ (x .high) (pos 0)
-
 -- how a loop that looks at all numbers of a block but the first goes on to block b
-pub rest-next : (d : List ℤ) (b : ℕ) (x r : Span) → 16 * b + 16 ≤ length d → let s = midOf (16 * b + 1) (16 * b + 16 - (16 * b + 1)) d in
-    leZ (pos 0) (r .low) ≡ leZ (pos 0) (x .low) && allOf (leZ (pos 0)) s → leZ (r .high) (pos 0) ≡ leZ (x .high) (pos 0) && allOf (λ z. leZ z (pos 0)) s
-    → (allZero x ≡ true → (c i : ℕ) → c < b → 0 < i → i < 16 → at d (16 * c + i) ≡ pos 0)
-    → allZero r ≡ true → (c i : ℕ) → c < b + 1 → 0 < i → i < 16 → at d (16 * c + i) ≡ pos 0
-unfolding isZero
-rest-next d b x r room l h before e c i hc hi g = go (decLt c b)
+pub rest-next : (d : List ℤ) (b : ℕ) (x r : ℤ) → 16 * b + 16 ≤ length d → isZero r ≡ isZero x && allOf isZero (midOf (16 * b + 1) (16 * b + 16 - (16 * b + 1)) d)
+    → (isZero x ≡ true → (c i : ℕ) → c < b → 0 < i → i < 16 → at d (16 * c + i) ≡ pos 0)
+    → isZero r ≡ true → (c i : ℕ) → c < b + 1 → 0 < i → i < 16 → at d (16 * c + i) ≡ pos 0
+rest-next d b x r room told before e c i hc hi g = go (decLt c b)
   where
     s : List ℤ
     s = midOf (16 * b + 1) (16 * b + 16 - (16 * b + 1)) d
 
-    low : (leZ (pos 0) (x .low) ≡ true) × (allOf (leZ (pos 0)) s ≡ true)
-    low = and-both _ _ (sym l ∙ and-left (leZ (pos 0) (r .low)) (leZ (r .high) (pos 0)) e)
-
-    high : (leZ (x .high) (pos 0) ≡ true) × (allOf (λ z. leZ z (pos 0)) s ≡ true)
-    high = and-both _ _ (sym h ∙ and-right (leZ (pos 0) (r .low)) (leZ (r .high) (pos 0)) e)
+    both : (isZero x ≡ true) × (allOf isZero s ≡ true)
+    both = and-both _ _ (sym told ∙ e)
 
     long : length s ≡ 15
     long = mid-len (16 * b + 1) (16 * b + 16) d room ∙ (let n : 16 * b + 16 - (16 * b + 1) ≡ 15 = omega arith in n)
 
     go : Dec (c < b) → at d (16 * c + i) ≡ pos 0
-    go (yes p) = before (and-of (low .0) (high .0)) c i p hi g
+    go (yes p) = before (both .0) c i p hi g
     go (no p) =
         let m : 16 * b + 1 + (i - 1) ≡ 16 * c + i = omega arith in
-        let k : i - 1 < length s = omega (arith, long) in
         sym (part-at (pos 0) d (16 * b + 1) (16 * b + 16 - (16 * b + 1)) (i - 1) (omega arith) ∙ ap (at d) m)
-        ∙ zero-is (at s (i - 1)) (and-of (all-at (length s) (λ k. leZ (pos 0) (at s k)) (low .1) (i - 1) k) (all-at (length s) (λ k. leZ (at s k) (pos 0)) (high .1) (i - 1) k))
+        ∙ zero-is (at s (i - 1)) (all-at (length s) (λ k. isZero (at s k)) (both .1) (i - 1) (omega (arith, long)))
 
 -- ---- the easy forms
 module _ (d : List ℤ) (F : OnlyFirsts 16 d) where

@@ -16,7 +16,7 @@ use Rattle.laws.specs.Table.{table, allBlocks}
 use Rattle.laws.proofs.Answers.{holds, passes, refused, put}
 use Rattle.laws.proofs.Blockwise.{number-in}
 use Rattle.laws.proofs.Tables.{length-table}
-use Rattle.laws.proofs.Tests.{not-both, no-from, and-left, and-right, and-both, and-of, all-at}
+use Rattle.laws.proofs.Tests.{not-both, no-from, and-left, and-right, and-both, all-at}
 use Rattle.residual.specs.Inverse.{inverseAnswer}
 use Rattle.residual.specs.Numbers.{inRange, allInRange}
 use Rattle.residual.specs.Quads.{markAnswer, blocksAnswer}

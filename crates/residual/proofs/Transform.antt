@@ -1,24 +1,21 @@
 -- The 4x4 inverse transform: how large its numbers grow, and its residuals by column. Assumes nothing.
-use mathlib.Core.Path.{_≡_, sym, ap, ap₂, _∙_, subst}
+use mathlib.Core.Path.{_≡_, sym, ap, _∙_, subst}
 use mathlib.Core.Bool.{true}
-use mathlib.Core.List.{List, [], _∷_}
+use mathlib.Core.List.{List}
 use Prim.Native.Nat.{ℕ, zero, suc, _+_, _*_, _/_, _%_, _<_}
 use native.Mathlib.Omega.{arith}
 use lib.IntN.{ℤ, pos, negℤ, _+ℤ_, _-ℤ_}
 use lib.Dec.{lit<}
-use lib.ListN.{getD}
 use lib.Signed.{shrZ}
 use mir.Syntax.{w16, w32}
 use mir.Val.{SFits, toZ, ofZ}
 use mir.ValLaws.{toZ-ofZ}
 use Rattle.laws.specs.Range.{Within, AllWithin, at}
-use Rattle.laws.specs.Table.{table}
 use Rattle.laws.proofs.Ints.{ints, within-back, within-more, within-neg, within-shr, within-short, within-table, abs-add, parts-add, parts-pos, parts-abs, parts-shr, back}
 use Rattle.laws.proofs.Blockwise.{OfBlock}
 use Rattle.laws.proofs.Tables.{length-table, table-same}
 use Rattle.residual.specs.Inverse.{firstStep, secondStep, oneDimensional, rounded, eRow, fRow, gColumn, hColumn, inverse4x4}
 use Rattle.residual.specs.Numbers.{allInRange}
-use Rattle.residual.specs.inner.Sums.{placeIn}
 use Rattle.residual.proofs.InRange.{all-within}
 
 -- a list that is a bounded one, and is bounded
@@ -57,16 +54,46 @@ second-within k e w = record { each = places }
 pub one-within : (k : ℕ) (d : ℕ → ℤ) → ((n : ℕ) → Within k (d n)) → AllWithin (2 * (2 * k)) (oneDimensional d)
 one-within k d w = second-within (2 * k) (at (firstStep d)) (first-within k d w .each)
 
--- four numbers, one by one
-pub four-within : {k : ℕ} {a b c d : ℤ} → Within k a → Within k b → Within k c → Within k d → AllWithin k (a ∷ b ∷ c ∷ d ∷ [])
-four-within {k} {a} {b} {c} {d} wa wb wc wd = record { each = places }
-  where
-    places : (n : ℕ) → Within k (at (a ∷ b ∷ c ∷ d ∷ []) n)
-    places zero = wa
-    places (suc zero) = wb
-    places (suc (suc zero)) = wc
-    places (suc (suc (suc zero))) = wd
-    places (suc (suc (suc (suc n)))) = record { within = omega arith }
+-- two of four numbers are halved on the way
+module _ (m : ℕ) (d : ℕ → ℤ) (w : (n : ℕ) → Within (2 * m) (d n)) where
+  half : (n : ℕ) → Within m (shrZ (d n) 2)
+  half n = record { within = omega (arith, w n .within, parts-abs (d n), parts-abs (shrZ (d n) 2), parts-shr 2 (d n) (lit< tt)) }
+
+  sum : (x y : ℤ) → Within (4 * m) x → Within (3 * m) y → Within (7 * m) (x +ℤ y)
+  sum x y h g = record { within = omega (arith, h .within, g .within, abs-add x y) }
+
+  difference : (x y : ℤ) → Within (4 * m) x → Within (3 * m) y → Within (7 * m) (x -ℤ y)
+  difference x y h g = sum x (negℤ y) h (within-neg (3 * m) y g)
+
+  abbrev e : ℕ → ℤ
+  e = at (firstStep d)
+
+  e0 : Within (4 * m) (e 0)
+  unfolding firstStep
+  e0 = record { within = omega (arith, w 0 .within, w 2 .within, abs-add (d 0) (d 2)) }
+
+  e1 : Within (4 * m) (e 1)
+  unfolding firstStep
+  e1 = record { within = omega (arith, w 0 .within, within-neg (2 * m) (d 2) (w 2) .within, abs-add (d 0) (negℤ (d 2))) }
+
+  e2 : Within (3 * m) (e 2)
+  unfolding firstStep
+  e2 = record { within = omega (arith, half 1 .within, within-neg (2 * m) (d 3) (w 3) .within, abs-add (shrZ (d 1) 2) (negℤ (d 3))) }
+
+  e3 : Within (3 * m) (e 3)
+  unfolding firstStep
+  e3 = record { within = omega (arith, w 1 .within, half 3 .within, abs-add (d 1) (shrZ (d 3) 2)) }
+
+  pub seven-within : AllWithin (7 * m) (oneDimensional d)
+  unfolding secondStep
+  seven-within = record { each = places }
+    where
+      places : (n : ℕ) → Within (7 * m) (at (secondStep e) n)
+      places zero = sum (e 0) (e 3) e0 e3
+      places (suc zero) = sum (e 1) (e 2) e1 e2
+      places (suc (suc zero)) = difference (e 1) (e 2) e1 e2
+      places (suc (suc (suc zero))) = difference (e 0) (e 3) e0 e3
+      places (suc (suc (suc (suc n)))) = record { within = omega arith }
 
 -- a coefficient in range, as the machine reads it
 pub read-within : {z : ℤ} → Within 32768 z → Within 131072 (toZ w32 (ofZ w32 z))
@@ -108,20 +135,6 @@ round-short z h =
 pub column-at : {r z : ℤ} → r ≡ rounded (toZ w32 (ofZ w32 z)) → Within 2097088 z → toZ w16 (ofZ w16 r) ≡ rounded z
 column-at {r} {z} e h = ap (λ u. toZ w16 (ofZ w16 u)) (e ∙ ap rounded (back 2097088 h tt)) ∙ toZ-ofZ w16 (rounded z) (rounded-short z h)
 
--- column j of four transformed rows, transformed
-abbrev columnIn : List ℤ → List ℤ → List ℤ → List ℤ → ℕ → List ℤ
-columnIn f0 f1 f2 f3 j = oneDimensional (at (at f0 j ∷ at f1 j ∷ at f2 j ∷ at f3 j ∷ []))
-
-pub column-is : (d f0 f1 f2 f3 : List ℤ) (j : ℕ) → f0 ≡ fRow d 0 → f1 ≡ fRow d 1 → f2 ≡ fRow d 2 → f3 ≡ fRow d 3 → columnIn f0 f1 f2 f3 j ≡ hColumn d j
-unfolding hColumn gColumn firstStep
-column-is d f0 f1 f2 f3 j p0 p1 p2 p3 = rw (p0, p1, p2, p3)
-
--- the four columns, put in raster order
-pub inverse-is : (d h0 h1 h2 h3 : List ℤ) → h0 ≡ hColumn d 0 → h1 ≡ hColumn d 1 → h2 ≡ hColumn d 2 → h3 ≡ hColumn d 3
-    → table 16 (placeIn h0 h1 h2 h3) ≡ inverse4x4 d
-unfolding inverse4x4 table
-inverse-is d h0 h1 h2 h3 q0 q1 q2 q3 = rw (q0, q1, q2, q3)
-
 -- residuals are small again
 pub inverse-within : (d : List ℤ) → allInRange d ≡ true → AllWithin 32768 (inverse4x4 d)
 unfolding inverse4x4
@@ -129,7 +142,7 @@ inverse-within d e =
     within-table 32768 16 _ (λ k _. within-more 8192 32768 _ (rounded-small 8192 _ (column-within d (k % 4) e .each (k / 4))) tt)
 
 -- ---- residuals come from the first sixteen numbers alone
-four-same : (f g : ℕ → ℤ) → ((n : ℕ) → n < 4 → f n ≡ g n) → firstStep f ≡ firstStep g
+pub four-same : (f g : ℕ → ℤ) → ((n : ℕ) → n < 4 → f n ≡ g n) → firstStep f ≡ firstStep g
 unfolding firstStep
 four-same f g h = rw (h 0 (lit< tt), h 1 (lit< tt), h 2 (lit< tt), h 3 (lit< tt))
 
@@ -157,10 +170,3 @@ of-block = record {
   long = λ d. length-table (pos 0) 16 (λ k. rounded (at (hColumn d (k % 4)) (k / 4)));
   same = λ d d′ e. table-same 16 _ _ (λ k h. ap (λ l. rounded (at l (k / 4))) (h-same d d′ e (k % 4)));
 }
-
--- row i of a block whose columns are known
-pub place-is : (h0 h1 h2 h3 h : List ℤ) (i j k : ℕ) → j < 4 → k ≡ 4 * i + j → getD (h0 ∷ h1 ∷ h2 ∷ h3 ∷ []) j [] ≡ h → rounded (at h i) ≡ placeIn h0 h1 h2 h3 k
-place-is h0 h1 h2 h3 h i j k b n e =
-    let m : k % 4 ≡ j = omega arith in
-    let d : k / 4 ≡ i = omega arith in
-    sym (ap₂ (λ (x y : ℕ). rounded (at (getD (h0 ∷ h1 ∷ h2 ∷ h3 ∷ []) x []) y)) m d ∙ ap (λ l. rounded (at l i)) e)

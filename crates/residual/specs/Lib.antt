@@ -1,6 +1,5 @@
 -- The definitions that the crate's contracts cite, by clause.
 pub mod Agreement
-pub mod Extents
 pub mod Fits4x4
 pub mod Inverse
 pub mod Numbers

@@ -8,11 +8,11 @@ use lib.ListN.{length}
 use Rattle.laws.specs.Answer.{_unless_, answer}
 use Rattle.laws.specs.Range.{at}
 use Rattle.laws.specs.Table.{table, allBelow}
-use Rattle.residual.specs.Numbers.{isZero}
+use Rattle.residual.specs.Numbers.{isZero, isSmall}
 
--- the mark of quad q: 0 where all its numbers are 0, else 1
+-- the mark of quad q: 0 where all its numbers are 0, 1 where all are small, else 2
 unfoldable pub codedQuad : List ℤ → ℕ → ℕ
-codedQuad l q = cond (allBelow 64 (λ k. isZero (at l (64 * q + k)))) 0 1
+codedQuad l q = cond (allBelow 64 (λ k. isZero (at l (64 * q + k)))) 0 (cond (allBelow 64 (λ k. isSmall (at l (64 * q + k)))) 1 2)
 
 -- those of all quads
 abbrev pub codedQuads : List ℤ → List ℕ

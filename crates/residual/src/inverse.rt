@@ -1,33 +1,29 @@
 // The transformation of residual 4x4 blocks (clause 8.5.12.2).
 ghost use mathlib.Core.Path.{_≡_};
 ghost use mathlib.Core.Bool.{true, false, cond, _&&_};
-ghost use mathlib.Core.List.{List, [], _∷_, _++_};
-ghost use Prim.Native.Nat.{_+_, _*_, _%_, _≤_, _<_};
-ghost use lib.IntN.{ℤ, pos};
+ghost use mathlib.Core.List.{[], _∷_, _++_};
+ghost use Prim.Native.Nat.{_*_, _≤_};
+ghost use lib.Dec.{ltb};
+ghost use lib.IntN.{pos};
 ghost use lib.ListN.{length, drop, replicate};
 ghost use lib.Signed.{leZ};
 ghost use Rattle.laws.specs.Answer.{_unless_, answer, written};
-ghost use Rattle.laws.specs.Range.{Within, AllWithin, at};
-ghost use Rattle.laws.specs.Table.{onto, blockwise, allBelow, allBlocks};
-ghost use Rattle.residual.specs.Extents.{held, allOfFour};
+ghost use Rattle.laws.specs.Range.{Within, at};
+ghost use Rattle.laws.specs.Table.{blockwise, allBelow, allBlocks};
 ghost use Rattle.residual.specs.Fits4x4.{Fits4x4};
-ghost use Rattle.residual.specs.Inverse.{oneDimensional, rounded, fRow, inverse4x4, inRange4x4, inverseAnswer};
-ghost use Rattle.residual.specs.Numbers.{inRange, allInRange, isZero, lastInRange};
-ghost use Rattle.residual.specs.Quads.{codedQuads, markAnswer, blocksAnswer};
+ghost use Rattle.residual.specs.Inverse.{rounded, inverse4x4, inRange4x4, inverseAnswer};
+ghost use Rattle.residual.specs.Numbers.{allInRange, isZero, isSmall};
+ghost use Rattle.residual.specs.Quads.{codedQuad, codedQuads, markAnswer, blocksAnswer};
 ghost use Rattle.residual.specs.inner.Quads.{quadInverse, quadInRange, OnlyFirsts};
-ghost use Rattle.residual.specs.inner.Sums.{placeIn};
-use super::extent::Extent;
-use super::extent::holds;
-use super::extent::no_extent;
-use super::extent::with_four;
-use super::extent::with_last_four;
-use super::numbers::Span;
-use super::numbers::all_in_range;
 use super::numbers::fill_all;
-use super::numbers::lies_in;
-use super::numbers::no_span;
 use super::numbers::widen_all;
-use super::numbers::with_list;
+use super::passes::columns;
+use super::passes::round;
+use super::passes::round_all;
+use super::passes::rows;
+use super::passes::values_in_range;
+use super::reach::any_of;
+use super::reach::with_list;
 
 pub struct Residual4x4 {
     pub answer: u32,
@@ -70,10 +66,19 @@ pub(crate) fn invert_one(d: &[i32], out: &mut [i16]) -> bool
     ensures { λ r. ⌜ r ≡ inRange4x4 (now (d .entry)) ⌝ }
     ensures { λ r. ⌜ (r ≡ true → now (out .exit) ≡ inverse4x4 (now (d .entry))) ⌝ }
 {
-    if !all_in_range(d) {
+    let reach = with_list(0, d);
+    if 32768 <= reach {
         return false;
     }
-    invert_all(d, out)
+    let mut f = [0i32; 16];
+    let mut h = [0i32; 16];
+    rows(d, &mut f);
+    columns(&f, &mut h);
+    round_all(&h, out);
+    if reach < 2048 {
+        return true;
+    }
+    values_in_range(&f, &h)
 }
 
 // What a call on the quads of a list says: whether its lengths are refused, and where they are not whether what it was to look at is in range.
@@ -143,18 +148,22 @@ fn mark_quads(list: &[i32], coded: &mut [u8]) -> bool
     let n = coded.len();
     let mut good = true;
     for q in 0..n {
-        let x = with_list(no_span(), &list[64 * q..64 * q + 64]);
-        coded[q] = mark_of(x);
-        good = both(good, lies_in(x, -32768, 32767));
+        let quad = &list[64 * q..64 * q + 64];
+        let reach = with_list(0, quad);
+        coded[q] = mark_of(any_of(0, quad), reach);
+        good = both(good, reach < 32768);
     }
     good
 }
 
-// 0 where all numbers are 0, else 1.
-fn mark_of(x: Span) -> u8
-    ensures { λ r. ⌜ r ≡ cond (leZ (pos 0) (x .low) && leZ (x .high) (pos 0)) 0 1 ⌝ }
+// 0 where none of some numbers is other than 0, 1 where they reach no further than small ones, else 2.
+fn mark_of(any: i32, reach: u32) -> u8
+    ensures { λ r. ⌜ r ≡ cond (isZero any) 0 (cond (ltb reach 2048) 1 2) ⌝ }
 {
-    if lies_in(x, 0, 0) { 0 } else { 1 }
+    if any == 0 {
+        return 0;
+    }
+    if reach < 2048 { 1 } else { 2 }
 }
 
 // Both of two tests, without a way out at the first.
@@ -172,27 +181,12 @@ fn invert_quads(list: &[i32], out: &mut [i16], coded: &[u8]) -> bool
     ensures { λ _. ⌜ now (out .exit) ≡ blockwise 16 inverse4x4 (now (list .entry)) ⌝ }
 {
     let n = coded.len();
-    if dense(list, n) {
-        return invert_all(list, out);
-    }
     let mut good = true;
     for q in 0..n {
-        let some = coded[q] != 0;
-        good = both(good, invert_quad(some, &list[64 * q..], &mut out[64 * q..]));
+        let mark = coded[q];
+        good = both(good, invert_quad(mark, &list[64 * q..], &mut out[64 * q..]));
     }
     good
-}
-
-// A guess that no quad has an easy form. Where it holds all blocks are made in one loop.
-fn dense(list: &[i32], n: usize) -> bool
-    requires { ⌜ length (now list) ≡ 64 * n ⌝ }
-{
-    for q in 0..n {
-        if may_be_easy(&list[64 * q..]) {
-            return false;
-        }
-    }
-    true
 }
 
 // Whether a quad may have an easy form, by four of the coefficients that are most likely to be other than 0.
@@ -213,20 +207,39 @@ fn may_be_easy(d: &[i32]) -> bool
 
 // The residuals of the first 64 numbers of a list over the first 64 places of `out`, and whether their four blocks are in range. Where no number but the
 // first of each block is other than 0 the residuals of a block are equal, and where none is they are 0.
-fn invert_quad(some: bool, d: &[i32], out: &mut [i16]) -> bool
-    requires { ⌜ (64 ≤ length (now d)) × (64 ≤ length (now out)) × (allInRange (now d) ≡ true)
-        × (some ≡ false → allBelow 64 (λ k. isZero (at (now d) k)) ≡ true) ⌝ }
+fn invert_quad(mark: u8, d: &[i32], out: &mut [i16]) -> bool
+    requires { ⌜ (64 ≤ length (now d)) × (64 ≤ length (now out)) × (allInRange (now d) ≡ true) × (mark ≡ codedQuad (now d) 0) ⌝ }
     ensures { λ r. ⌜ r ≡ quadInRange (now (d .entry)) ⌝ }
     ensures { λ _. ⌜ now (out .exit) ≡ quadInverse (now (d .entry)) ++ drop 64 (now (out .entry)) ⌝ }
 {
-    if !some {
+    if mark == 0 {
         fill_all(0, &mut out[..64]);
         return true;
     }
     if only_firsts(d) {
         return flatten(d, out);
     }
-    invert_all(&d[..64], &mut out[..64])
+    invert_four(mark == 1, d, out)
+}
+
+// The same by the two passes. Where the numbers are small no value on the way can leave its range, and none is looked at.
+fn invert_four(small: bool, d: &[i32], out: &mut [i16]) -> bool
+    requires { ⌜ (64 ≤ length (now d)) × (64 ≤ length (now out)) × (allInRange (now d) ≡ true)
+        × (small ≡ true → allBelow 64 (λ k. isSmall (at (now d) k)) ≡ true) ⌝ }
+    ensures { λ r. ⌜ r ≡ quadInRange (now (d .entry)) ⌝ }
+    ensures { λ _. ⌜ now (out .exit) ≡ quadInverse (now (d .entry)) ++ drop 64 (now (out .entry)) ⌝ }
+{
+    let mut f = [0i32; 64];
+    let mut h = [0i32; 64];
+    rows(d, &mut f);
+    for b in 0..4 {
+        columns(&f[16 * b..], &mut h[16 * b..]);
+    }
+    round_all(&h, &mut out[..64]);
+    if small {
+        return true;
+    }
+    values_in_range(&f, &h)
 }
 
 // Whether no number but the first of each block is other than 0.
@@ -237,11 +250,11 @@ fn only_firsts(d: &[i32]) -> bool
     if !may_be_easy(d) {
         return false;
     }
-    let mut x = no_span();
+    let mut any = 0;
     for b in 0..4 {
-        x = with_list(x, &d[16 * b + 1..16 * b + 16]);
+        any = any_of(any, &d[16 * b + 1..16 * b + 16]);
     }
-    lies_in(x, 0, 0)
+    any == 0
 }
 
 // The same as `invert_quad` of such numbers.
@@ -265,111 +278,4 @@ fn flat(v: i32, out: &mut [i16]) -> bool
 {
     fill_all(round(v), &mut out[..16]);
     v <= 32735
-}
-
-// The residuals of a list that passes, and whether every block is in range.
-fn invert_all(list: &[i32], out: &mut [i16]) -> bool
-    requires { ⌜ (length (now list) % 16 ≡ 0) × (length (now list) ≡ length (now out)) × (allInRange (now list) ≡ true) ⌝ }
-    ensures { λ r. ⌜ r ≡ allBlocks 16 inRange4x4 (now (list .entry)) ⌝ }
-    ensures { λ _. ⌜ now (out .exit) ≡ blockwise 16 inverse4x4 (now (list .entry)) ⌝ }
-{
-    let n = list.len() / 16;
-    let mut x = no_extent();
-    for b in 0..n {
-        x = invert(&list[16 * b..], &mut out[16 * b..], x);
-    }
-    holds(x)
-}
-
-// The residuals of the first sixteen numbers of a list over the first sixteen places of `out`: four rows, then four columns. The extent reaches over theirs.
-fn invert(d: &[i32], out: &mut [i16], x: Extent) -> Extent
-    requires { ⌜ (16 ≤ length (now d)) × (16 ≤ length (now out)) × (allInRange (now d) ≡ true) ⌝ }
-    ensures { λ r. ⌜ held r ≡ (held x && inRange4x4 (now (d .entry))) ⌝ }
-    ensures { λ _. ⌜ now (out .exit) ≡ inverse4x4 (now (d .entry)) ++ drop 16 (now (out .entry)) ⌝ }
-{
-    let f0 = row(d, 0);
-    let f1 = row(d, 1);
-    let f2 = row(d, 2);
-    let f3 = row(d, 3);
-    let h0 = column(f0, f1, f2, f3, 0);
-    let h1 = column(f0, f1, f2, f3, 1);
-    let h2 = column(f0, f1, f2, f3, 2);
-    let h3 = column(f0, f1, f2, f3, 3);
-    put_row(out, 0, h0, h1, h2, h3);
-    put_row(out, 1, h0, h1, h2, h3);
-    put_row(out, 2, h0, h1, h2, h3);
-    put_row(out, 3, h0, h1, h2, h3);
-    let after_rows = with_rows(x, f0, f1, f2, f3);
-    with_columns(after_rows, h0, h1, h2, h3)
-}
-
-// Row `i` of the coefficients, transformed.
-fn row(d: &[i32], i: usize) -> [i32; 4]
-    requires { ⌜ (16 ≤ length (now d)) × (allInRange (now d) ≡ true) × (i < 4) ⌝ }
-    ensures { λ r. ⌜ r ≡ fRow (now (d .entry)) i ⌝ }
-    ensures { λ r. ⌜ AllWithin 131072 r ⌝ }
-{
-    let k = 4 * i;
-    one_dimensional(d[k], d[k + 1], d[k + 2], d[k + 3])
-}
-
-// Column `j` of four transformed rows, transformed.
-fn column(f0: [i32; 4], f1: [i32; 4], f2: [i32; 4], f3: [i32; 4], j: usize) -> [i32; 4]
-    requires { ⌜ AllWithin 131072 f0 × AllWithin 131072 f1 × AllWithin 131072 f2 × AllWithin 131072 f3 × (j < 4) ⌝ }
-    ensures { λ r. ⌜ r ≡ oneDimensional (at (at f0 j ∷ at f1 j ∷ at f2 j ∷ at f3 j ∷ [])) ⌝ }
-    ensures { λ r. ⌜ AllWithin 524288 r ⌝ }
-{
-    one_dimensional(f0[j], f1[j], f2[j], f3[j])
-}
-
-// The one-dimensional transformation of four numbers.
-fn one_dimensional(d0: i32, d1: i32, d2: i32, d3: i32) -> [i32; 4]
-    requires { ⌜ Within 131072 d0 × Within 131072 d1 × Within 131072 d2 × Within 131072 d3 ⌝ }
-    ensures { λ r. ⌜ r ≡ oneDimensional (at (d0 ∷ d1 ∷ d2 ∷ d3 ∷ [])) ⌝ }
-    ensures { λ r. ⌜ AllWithin 524288 r ⌝ }
-{
-    let e0 = d0 + d2;
-    let e1 = d0 - d2;
-    let e2 = (d1 >> 1) - d3;
-    let e3 = d1 + (d3 >> 1);
-    [e0 + e3, e1 + e2, e1 - e2, e0 - e3]
-}
-
-// Row `i` of a block put from its four columns, each number rounded to a residual.
-fn put_row(out: &mut [i16], i: usize, h0: [i32; 4], h1: [i32; 4], h2: [i32; 4], h3: [i32; 4])
-    requires { ⌜ (16 ≤ length (now out)) × (i < 4) ⌝ }
-    requires { ⌜ AllWithin 524288 h0 × AllWithin 524288 h1 × AllWithin 524288 h2 × AllWithin 524288 h3 ⌝ }
-    ensures { λ _. ⌜ ((l : List ℤ) → length l ≡ length (now (out .entry)) → now (out .entry) ≡ onto (4 * i) (placeIn h0 h1 h2 h3) l
-        → now (out .exit) ≡ onto (4 * i + 4) (placeIn h0 h1 h2 h3) l) ⌝ }
-{
-    let k = 4 * i;
-    out[k] = round(h0[i]);
-    out[k + 1] = round(h1[i]);
-    out[k + 2] = round(h2[i]);
-    out[k + 3] = round(h3[i]);
-}
-
-// A number of the second pass, rounded to a residual.
-fn round(h: i32) -> i16
-    requires { ⌜ Within 524288 h ⌝ }
-    ensures { λ r. ⌜ r ≡ rounded h ⌝ }
-{
-    ((h + 32) >> 6) as i16
-}
-
-// The extent with four transformed rows. Where their numbers are in range, so are the sums that they are made of.
-fn with_rows(x: Extent, f0: [i32; 4], f1: [i32; 4], f2: [i32; 4], f3: [i32; 4]) -> Extent
-    ensures { λ r. ⌜ held r ≡ (held x && allOfFour inRange f0 && allOfFour inRange f1 && allOfFour inRange f2 && allOfFour inRange f3) ⌝ }
-{
-    with_four(with_four(with_four(with_four(x, f0), f1), f2), f3)
-}
-
-// The same with four transformed columns.
-fn with_columns(x: Extent, h0: [i32; 4], h1: [i32; 4], h2: [i32; 4], h3: [i32; 4]) -> Extent
-    ensures { λ r. ⌜ held r ≡ (held x && allOfFour lastInRange h0 && allOfFour lastInRange h1 && allOfFour lastInRange h2 && allOfFour lastInRange h3) ⌝ }
-{
-    with_last_four(
-        with_last_four(with_last_four(with_last_four(x, h0), h1), h2),
-        h3,
-    )
 }

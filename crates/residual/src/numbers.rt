@@ -1,56 +1,18 @@
 // The numbers that may be given: coefficients, residuals and predictions in -32768..32767.
 ghost use mathlib.Core.Path.{_≡_};
-ghost use mathlib.Core.Bool.{true, _&&_};
+ghost use mathlib.Core.Bool.{true};
 ghost use mathlib.Core.List.{[], _∷_};
 ghost use lib.Dec.{eqb};
-ghost use lib.IntN.{ℤ, pos};
 ghost use lib.ListN.{length, replicate};
-ghost use lib.Signed.{leZ};
 ghost use Rattle.laws.specs.Answer.{_unless_, answer, written};
-ghost use Rattle.residual.specs.Numbers.{inRange, allInRange, allOf};
-use basics::clip::greatest;
-use basics::clip::least;
-
-// The least and the greatest of some numbers; 0 is one of them. A loop that keeps these has no way out, and so is computed side by side.
-pub struct Span {
-    pub low: i32,
-    pub high: i32,
-}
-
-// That of no numbers.
-pub fn no_span() -> Span
-    ensures { λ r. ⌜ (r .low ≡ pos 0) × (r .high ≡ pos 0) ⌝ }
-{
-    Span { low: 0, high: 0 }
-}
-
-// With the numbers of a list: what the least is told to be at least, and the greatest at most, is told of each of them.
-pub fn with_list(x: Span, s: &[i32]) -> Span
-    ensures { λ r. ⌜ ((a : ℤ) → leZ a (r .low) ≡ (leZ a (x .low) && allOf (leZ a) (now (s .entry)))) ⌝ }
-    ensures { λ r. ⌜ ((a : ℤ) → leZ (r .high) a ≡ (leZ (x .high) a && allOf (λ z. leZ z a) (now (s .entry)))) ⌝ }
-{
-    let mut low = x.low;
-    let mut high = x.high;
-    let n = s.len();
-    for i in 0..n {
-        low = least(low, s[i]);
-        high = greatest(high, s[i]);
-    }
-    Span { low, high }
-}
-
-// Whether all of them lie between two numbers.
-pub fn lies_in(x: Span, low: i32, high: i32) -> bool
-    ensures { λ r. ⌜ r ≡ (leZ low (x .low) && leZ (x .high) high) ⌝ }
-{
-    low <= x.low && x.high <= high
-}
+ghost use Rattle.residual.specs.Numbers.{inRange, allInRange};
+use super::reach::with_list;
 
 // Whether every number of `s` lies in that range.
 pub fn all_in_range(s: &[i32]) -> bool
     ensures { λ r. ⌜ r ≡ allInRange (now (s .entry)) ⌝ }
 {
-    lies_in(with_list(no_span(), s), -32768, 32767)
+    with_list(0, s) < 32768
 }
 
 // Every place of a list filled with `v`.

@@ -11,9 +11,8 @@ use Rattle.laws.specs.Range.{at}
 use Rattle.laws.specs.Table.{allBelow}
 use Rattle.laws.proofs.Tables.{table-same, table-const}
 use Rattle.laws.proofs.Tests.{true-T, T-true, same-test, and-of, all-of}
-use Rattle.residual.specs.Extents.{allOfFour}
 use Rattle.residual.specs.Inverse.{rounded}
-use Rattle.residual.specs.Numbers.{inRange, allInRange, lastInRange}
+use Rattle.residual.specs.Numbers.{inRange, allInRange, allOf, lastInRange}
 use Rattle.residual.proofs.InRange.{last-in-range}
 use Rattle.transform_8x8.specs.Flat.{Flat, lone}
 use Rattle.transform_8x8.specs.Inverse8x8.{firstStep, secondStep, thirdStep, oneDimensional, eRow, fRow, gRow, hColumn, kColumn, mColumn, inverse8x8, inRange8x8}
@@ -49,9 +48,9 @@ lone-passes v f a b = eight-same f (first v) same ∙ passes v
     same (suc n) h = b (suc n) (omega arith) h
 
 -- the odd values of their first step are zeros
-lone-odd : (v : ℤ) (f : ℕ → ℤ) → f 0 ≡ v → ((n : ℕ) → 0 < n → n < 8 → f n ≡ pos 0) → allOfFour inRange (oddOf (firstStep f)) ≡ true
+lone-odd : (v : ℤ) (f : ℕ → ℤ) → f 0 ≡ v → ((n : ℕ) → 0 < n → n < 8 → f n ≡ pos 0) → allOf inRange (oddOf (firstStep f)) ≡ true
 unfolding firstStep allBelow inRange
-lone-odd v f a b = ap (λ e. allOfFour inRange (oddOf e)) (first-same f (first v) same)
+lone-odd v f a b = ap (λ e. allOf inRange (oddOf e)) (first-same f (first v) same)
   where
     same : (n : ℕ) → n < 8 → f n ≡ first v n
     same zero h = a

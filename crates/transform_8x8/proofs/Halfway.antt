@@ -12,8 +12,7 @@ use Rattle.laws.specs.Table.{table, allBelow}
 use Rattle.laws.proofs.Blockwise.{TestOfBlock}
 use Rattle.laws.proofs.Ints.{within-table}
 use Rattle.laws.proofs.Tests.{true-T, T-true, same-test, and-left, and-right, and-of, all-at, all-of, all-same}
-use Rattle.residual.specs.Extents.{allOfFour}
-use Rattle.residual.specs.Numbers.{inRange, allInRange, lastInRange}
+use Rattle.residual.specs.Numbers.{inRange, allInRange, allOf, lastInRange}
 use Rattle.residual.proofs.InRange.{in-range-within, in-range-short, halves, last-in-range, last-rounds}
 use Rattle.residual.proofs.InRange as numbers
 use Rattle.residual.proofs.Transform.{rounded-small}
@@ -39,7 +38,7 @@ third-told f w (suc (suc (suc (suc (suc (suc zero)))))) h = halves (f 6) (f 1) (
 third-told f w (suc (suc (suc (suc (suc (suc (suc zero))))))) h = halves (f 0) (f 7) (w 0 (lit< tt)) (w 7 (lit< tt)) .1
 third-told f w (suc (suc (suc (suc (suc (suc (suc (suc n)))))))) h = absurd (omega arith)
 
-second-told : (e : List ℤ) → InRange8 (at (secondStep (at e))) → allOfFour inRange (oddOf e) ≡ true → InRange8 (at e)
+second-told : (e : List ℤ) → InRange8 (at (secondStep (at e))) → allOf inRange (oddOf e) ≡ true → InRange8 (at e)
 unfolding secondStep
 second-told e w o zero h = halves (at e 0) (at e 6) (w 0 (lit< tt)) (w 6 (lit< tt)) .0
 second-told e w o (suc zero) h = all-at 4 _ o 0 (lit< tt)
@@ -52,7 +51,7 @@ second-told e w o (suc (suc (suc (suc (suc (suc (suc zero))))))) h = all-at 4 _ 
 second-told e w o (suc (suc (suc (suc (suc (suc (suc (suc n)))))))) h = absurd (omega arith)
 
 -- the odd places are among the eight
-odd-of : (e : List ℤ) → InRange8 (at e) → allOfFour inRange (oddOf e) ≡ true
+odd-of : (e : List ℤ) → InRange8 (at e) → allOf inRange (oddOf e) ≡ true
 odd-of e w = all-of 4 _ places
   where
     places : (k : ℕ) → k < 4 → inRange (at (oddOf e) k) ≡ true
@@ -68,7 +67,7 @@ module _ (d : List ℤ) where
   gIn j = allBelow 8 (λ i. inRange (at (gRow d i) j))
 
   abbrev hIn : ℕ → Bool
-  hIn j = allOfFour inRange (oddOf (hColumn d j))
+  hIn j = allOf inRange (oddOf (hColumn d j))
 
   abbrev mIn : ℕ → Bool
   mIn j = allOfEight lastInRange (mColumn d j)
@@ -78,7 +77,7 @@ module _ (d : List ℤ) where
 
   column-tested : (j : ℕ) → j < 8 → columnTold (table 64 (rowAt d)) j ≡ columnTested j
   column-tested j h =
-      ap₂ _&&_ (ap₂ _&&_ (all-same 8 _ _ (λ i hi. ap inRange (row-in d i j hi h))) (ap (λ a. allOfFour inRange (oddOf a)) (h-is d j h))) (ap (allOfEight lastInRange) (m-is d j h))
+      ap₂ _&&_ (ap₂ _&&_ (all-same 8 _ _ (λ i hi. ap inRange (row-in d i j hi h))) (ap (λ a. allOf inRange (oddOf a)) (h-is d j h))) (ap (allOfEight lastInRange) (m-is d j h))
 
   abbrev rows : Bool
   rows = allBelow 8 (rowTold d)

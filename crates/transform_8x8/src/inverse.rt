@@ -16,17 +16,13 @@ ghost use Rattle.transform_8x8.specs.Inverse8x8.{inverse8x8, inRange8x8}
 ghost use Rattle.transform_8x8.specs.inner.Firsts.{OnlyFirst};
 use super::passes::invert;
 use super::passes::round;
-use residual::extent::holds;
-use residual::extent::no_extent;
 use residual::inverse::Blocks;
 use residual::inverse::both;
 use residual::inverse::mark_coded;
 use residual::inverse::refused;
 use residual::numbers::fill_all;
-use residual::numbers::lies_in;
-use residual::numbers::no_span;
 use residual::numbers::widen_all;
-use residual::numbers::with_list;
+use residual::reach::any_of;
 
 pub struct Residual8x8 {
     pub answer: u32,
@@ -120,7 +116,7 @@ fn invert_block(some: bool, d: &[i32], out: &mut [i16]) -> bool
     if only_first(d) {
         return flat(d, out);
     }
-    holds(invert(d, out, no_extent()))
+    invert(d, out)
 }
 
 // Whether no number but the first is other than 0. The two that are looked at first are those most likely to be.
@@ -134,7 +130,7 @@ fn only_first(d: &[i32]) -> bool
     if d[8] != 0 {
         return false;
     }
-    lies_in(with_list(no_span(), &d[1..64]), 0, 0)
+    any_of(0, &d[1..64]) == 0
 }
 
 // The same as `invert_block` of such numbers.

@@ -7,44 +7,42 @@ ghost use lib.IntN.{ℤ};
 ghost use lib.ListN.{length, drop};
 ghost use Rattle.laws.specs.Range.{Within, AllWithin, at};
 ghost use Rattle.laws.specs.Table.{table, onto, allBelow};
-ghost use Rattle.residual.specs.Extents.{held, allOfFour};
 ghost use Rattle.residual.specs.Inverse.{rounded};
-ghost use Rattle.residual.specs.Numbers.{inRange, allInRange, lastInRange};
+ghost use Rattle.residual.specs.Numbers.{inRange, allInRange, allOf, held};
 ghost use Rattle.transform_8x8.specs.Inverse8x8.{firstStep, oneDimensional, eRow, gRow, inverse8x8, inRange8x8};
 ghost use Rattle.transform_8x8.specs.inner.ByColumn.{ByColumn, rowAt, columnAt};
-ghost use Rattle.transform_8x8.specs.inner.Told.{oddOf, allOfEight, columnIn, rowTold, columnTold};
+ghost use Rattle.transform_8x8.specs.inner.Told.{oddOf, columnIn, rowTold, columnTold};
 use super::steps::Steps;
 use super::steps::one_dimensional;
-use residual::extent::Extent;
-use residual::extent::with_four;
-use residual::extent::with_last_four;
+use residual::reach::with_last_list;
+use residual::reach::with_list;
 
-// The residuals of the first 64 numbers of a list over the first 64 places of `out`. The extent reaches over their values.
-pub(crate) fn invert(d: &[i32], out: &mut [i16], x: Extent) -> Extent
+// The residuals of the first 64 numbers of a list over the first 64 places of `out`, and whether every value on the way is in range.
+pub(crate) fn invert(d: &[i32], out: &mut [i16]) -> bool
     requires { ⌜ (64 ≤ length (now d)) × (64 ≤ length (now out)) × (allInRange (now d) ≡ true) ⌝ }
-    ensures { λ r. ⌜ held r ≡ (held x && inRange8x8 (now (d .entry))) ⌝ }
+    ensures { λ r. ⌜ r ≡ inRange8x8 (now (d .entry)) ⌝ }
     ensures { λ _. ⌜ now (out .exit) ≡ inverse8x8 (now (d .entry)) ++ drop 64 (now (out .entry)) ⌝ }
 {
     let mut g = [0i32; 64];
-    let after_rows = rows(d, &mut g, x);
-    columns(&g, out, after_rows)
+    let after_rows = rows(d, &mut g);
+    columns(&g, out, after_rows) < 32768
 }
 
-// The rows, transformed.
-fn rows(d: &[i32], g: &mut [i32], x: Extent) -> Extent
+// The rows, transformed, and the reach of their values.
+fn rows(d: &[i32], g: &mut [i32]) -> u32
     requires { ⌜ (64 ≤ length (now d)) × (allInRange (now d) ≡ true) × (length (now g) ≡ 64) ⌝ }
-    ensures { λ r. ⌜ held r ≡ (held x && allBelow 8 (rowTold (now (d .entry)))) ⌝ }
+    ensures { λ r. ⌜ held r ≡ allBelow 8 (rowTold (now (d .entry))) ⌝ }
     ensures { λ _. ⌜ now (g .exit) ≡ table 64 (rowAt (now (d .entry))) ⌝ }
 {
-    let mut seen = x;
+    let mut reach: u32 = 0;
     for i in 0..8 {
         let s = row(d, i);
         let first = s.e;
         let last = s.g;
         put_row(g, i, last);
-        seen = with_odd(seen, first);
+        reach = with_odd(reach, first);
     }
-    seen
+    reach
 }
 
 // Row `i` of the coefficients, transformed.
@@ -76,21 +74,21 @@ fn put_row(g: &mut [i32], i: usize, v: [i32; 8])
     }
 }
 
-// The columns of the transformed rows, transformed and rounded.
-fn columns(g: &[i32], out: &mut [i16], x: Extent) -> Extent
+// The columns of the transformed rows, transformed and rounded, and the reach with their values.
+fn columns(g: &[i32], out: &mut [i16], x: u32) -> u32
     requires { ⌜ (length (now g) ≡ 64) × AllWithin 241664 (now g) × (64 ≤ length (now out)) ⌝ }
     ensures { λ r. ⌜ held r ≡ (held x && allBelow 8 (columnTold (now (g .entry)))) ⌝ }
     ensures { λ _. ⌜ now (out .exit) ≡ onto 64 (columnAt (now (g .entry))) (now (out .entry)) ⌝ }
 {
-    let mut seen = x;
+    let mut reach = x;
     for j in 0..8 {
         let s = column(g, j);
         let first = s.e;
         let last = s.g;
         put_column(out, j, last);
-        seen = with_last_eight(with_odd(with_column(seen, g, j), first), last);
+        reach = with_last_list(with_odd(with_column(reach, g, j), first), &last);
     }
-    seen
+    reach
 }
 
 // Column `j`, transformed.
@@ -130,26 +128,29 @@ pub(crate) fn round(m: i32) -> i16
     ((m + 32) >> 6) as i16
 }
 
-// The extent with the values at the odd places of a first step. No later value tells of these; where the last ones of a pass are in range, so are all others.
-fn with_odd(x: Extent, e: [i32; 8]) -> Extent
-    ensures { λ r. ⌜ held r ≡ (held x && allOfFour inRange (oddOf e)) ⌝ }
+// The reach with the values at the odd places of a first step. No later value tells of these; where the last ones of a pass are in range, so are all others.
+fn with_odd(x: u32, e: [i32; 8]) -> u32
+    ensures { λ r. ⌜ held r ≡ (held x && allOf inRange (oddOf e)) ⌝ }
 {
-    with_four(x, [e[1], e[3], e[5], e[7]])
+    with_list(x, &[e[1], e[3], e[5], e[7]])
 }
 
-// The extent with column `j` of the transformed rows.
-fn with_column(x: Extent, g: &[i32], j: usize) -> Extent
+// The reach with column `j` of the transformed rows.
+fn with_column(x: u32, g: &[i32], j: usize) -> u32
     requires { ⌜ (length (now g) ≡ 64) × (j < 8) ⌝ }
     ensures { λ r. ⌜ held r ≡ (held x && columnIn (now (g .entry)) j) ⌝ }
 {
-    let half = with_four(x, [g[j], g[8 + j], g[16 + j], g[24 + j]]);
-    with_four(half, [g[32 + j], g[40 + j], g[48 + j], g[56 + j]])
-}
-
-// The extent with eight values after the second pass.
-fn with_last_eight(x: Extent, m: [i32; 8]) -> Extent
-    ensures { λ r. ⌜ held r ≡ (held x && allOfEight lastInRange m) ⌝ }
-{
-    let half = with_last_four(x, [m[0], m[1], m[2], m[3]]);
-    with_last_four(half, [m[4], m[5], m[6], m[7]])
+    with_list(
+        x,
+        &[
+            g[j],
+            g[8 + j],
+            g[16 + j],
+            g[24 + j],
+            g[32 + j],
+            g[40 + j],
+            g[48 + j],
+            g[56 + j],
+        ],
+    )
 }

@@ -66,24 +66,23 @@ fn known(mode: u8, last: u8, permitted: bool) -> Result<(), u32> {
     Ok(())
 }
 
-/// The least and the greatest number, or 0, are kept and looked at once: a way out at the first bad number would keep the loop from being
-/// computed several numbers at a time.
-fn lie_in(numbers: &[i32], low: i32, high: i32) -> bool {
-    let (least, greatest) = numbers.iter().fold((0, 0), |(least, greatest), &n| (n.min(least), n.max(greatest)));
-    low <= least && greatest <= high
+/// The binary digits of the numbers' magnitudes put together, of -1 - n for a negative n: less than 2^k where every number lies in -2^k..2^k - 1. A way out
+/// at the first number that does not would keep the loop from being computed several numbers at a time.
+fn reach(numbers: &[i32]) -> i32 {
+    numbers.iter().fold(0, |all, n| all | (n ^ (n >> 31)))
 }
 
 pub fn in_range(numbers: &[i32]) -> Result<(), u32> {
-    if lie_in(numbers, LOW, HIGH) {
+    if reach(numbers) <= HIGH {
         Ok(())
     } else {
         Err(8)
     }
 }
 
-/// Coefficients that are no further from 0 than this are in range together, whatever they are, in a 4x4 block and in an 8x8 block.
-const NEAR_4X4: i32 = 2_045;
-const NEAR_8X8: i32 = 500;
+/// Coefficients that reach no further than this are in range together, whatever they are, in a 4x4 block and in an 8x8 block.
+const NEAR_4X4: i32 = 2_047;
+const NEAR_8X8: i32 = 511;
 
 /// The same of the sum of their distances from 0. In a 4x4 block a coefficient counts once at most in every value. In an 8x8 block it counts 9/4 times at
 /// most, all together less than 63 times the furthest, and what is cut off on the way makes less than 43.
@@ -92,18 +91,14 @@ const SUM_8X8: i32 = 14_500;
 
 /// Whether coefficients are so near 0 that no value of their block can leave the range. It spares most blocks the look at their values.
 fn surely_in_range(deq: &[i32]) -> bool {
-    let sum: i32 = deq.iter().map(|v| v.unsigned_abs().min(32_768) as i32).sum();
-    if deq.len() == 16 {
-        sum <= SUM_4X4
-    } else {
-        sum <= SUM_8X8 || lie_in(deq, -NEAR_8X8, NEAR_8X8)
-    }
+    let (near, most) = if deq.len() == 16 { (NEAR_4X4, SUM_4X4) } else { (NEAR_8X8, SUM_8X8) };
+    reach(deq) <= near || deq.iter().map(|v| v.unsigned_abs().min(32_768) as i32).sum::<i32>() <= most
 }
 
 /// What the inverse of a 4x4 or 8x8 block refuses: a number out of range, or a block that leaves the range on the way.
 pub fn transformable(deq: &[i32]) -> Result<(), u32> {
     let mut res = [0; 64];
-    if surely_in_range(deq) || (lie_in(deq, LOW, HIGH) && halfway::residuals(deq, &mut res[..deq.len()])) {
+    if surely_in_range(deq) || (in_range(deq).is_ok() && halfway::residuals(deq, &mut res[..deq.len()])) {
         Ok(())
     } else {
         Err(8)
@@ -114,13 +109,13 @@ pub fn transformable(deq: &[i32]) -> Result<(), u32> {
 pub fn all_surely_in_range(kind: u8, numbers: &[i32]) -> bool {
     let (side, near) = if kind == 1 { (64, NEAR_8X8) } else { (16, NEAR_4X4) };
     let (luma, chroma) = numbers.split_at(256);
-    lie_in(numbers, -near, near) || luma.chunks_exact(side).chain(chroma.chunks_exact(16)).all(surely_in_range)
+    reach(numbers) <= near || luma.chunks_exact(side).chain(chroma.chunks_exact(16)).all(surely_in_range)
 }
 
 /// The residuals of a macroblock of this kind, or 8.
 pub fn all_residuals(kind: u8, numbers: &[i32]) -> Result<[i32; 384], u32> {
     let mut res = [0; 384];
-    if lie_in(numbers, LOW, HIGH) && halfway::residuals_of(kind, numbers, &mut res) {
+    if in_range(numbers).is_ok() && halfway::residuals_of(kind, numbers, &mut res) {
         Ok(res)
     } else {
         Err(8)

@@ -5,8 +5,7 @@ use Prim.Native.Nat.{ℕ, _+_, _*_}
 use lib.IntN.{ℤ}
 use Rattle.laws.specs.Range.{at}
 use Rattle.laws.specs.Table.{allBelow}
-use Rattle.residual.specs.Extents.{allOfFour}
-use Rattle.residual.specs.Numbers.{inRange, lastInRange}
+use Rattle.residual.specs.Numbers.{inRange, allOf, lastInRange}
 use Rattle.transform_8x8.specs.Inverse8x8.{firstStep, oneDimensional, eRow}
 
 -- the odd places of eight numbers
@@ -23,8 +22,8 @@ columnIn g j = allBelow 8 (λ i. inRange (at g (8 * i + j)))
 
 -- row i of the coefficients d, and column j of the transformed rows g: the last values of the rows are looked at where the columns read them
 abbrev pub rowTold : List ℤ → ℕ → Bool
-rowTold d i = allOfFour inRange (oddOf (eRow d i))
+rowTold d i = allOf inRange (oddOf (eRow d i))
 
 abbrev pub columnTold : List ℤ → ℕ → Bool
 columnTold g j =
-    columnIn g j && allOfFour inRange (oddOf (firstStep (λ i. at g (8 * i + j)))) && allOfEight lastInRange (oneDimensional (λ i. at g (8 * i + j)))
+    columnIn g j && allOf inRange (oddOf (firstStep (λ i. at g (8 * i + j)))) && allOfEight lastInRange (oneDimensional (λ i. at g (8 * i + j)))

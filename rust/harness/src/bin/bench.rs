@@ -3,7 +3,7 @@
 //! what the port is held against. Its 8x8 inverse is the one that the differential runs compare with. All are timed in turns, many times; what is
 //! told is the median of the ratios with the quartiles around it.
 //!
-//! `bench FOLDER [ROUNDS [PART]]` writes table.md, headline.md and benchmark.svg into the folder, of the rows whose names have PART in them. Where
+//! `bench FOLDER [ROUNDS [PART]]` writes table.md, benchmark.svg and, of all rows, headline.md into the folder; with PART the rows that have it in their names. Where
 //! valgrind is installed the table also has the instructions of each side: valgrind runs this program again with `count`, which makes each call a
 //! fixed number of times and times nothing.
 use harness::{bare_share, good_records, slice_map, sparse_records, Density, Memory, Random, Record};
@@ -842,7 +842,9 @@ fn write(rows: &mut [Row], folder: &Path) {
         assert_eq!(counts.next(), None, "no more counts than sides");
     }
     std::fs::write(folder.join("table.md"), format!("{}\n{}", circumstances(), table(rows))).unwrap();
-    std::fs::write(folder.join("headline.md"), headline(rows)).unwrap();
+    if argument(3).is_none() {
+        std::fs::write(folder.join("headline.md"), headline(rows)).unwrap();
+    }
     std::fs::write(folder.join("benchmark.svg"), plot(rows)).unwrap();
 }
 
@@ -861,5 +863,7 @@ fn main() {
     if let Some(folder) = argument(1) {
         write(&mut rows, Path::new(&folder));
     }
-    print!("{}", headline(&rows));
+    if argument(3).is_none() {
+        print!("{}", headline(&rows));
+    }
 }

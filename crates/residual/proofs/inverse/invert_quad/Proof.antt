@@ -1,17 +1,12 @@
 -- `residual::inverse::invert_quad` meets its contract: the easy forms are what the transform gives. Assumes nothing.
-use mathlib.Core.Path.{_≡_, sym, ap, ap₂, _∙_}
+use mathlib.Core.Path.{_≡_, sym, ap, _∙_}
 use mathlib.Core.List.{_++_}
 use Prim.Native.Nat.{min}
 use native.Mathlib.Omega.{arith}
-use borrow.Author.Tests.{not-true}
+use borrow.Author.Tests.{eqb-true}
 use lib.IntN.{pos}
-use lib.ListN.{length, take, drop, replicate, length-take}
-use Rattle.laws.specs.Table.{blockwise, allBlocks}
-use Rattle.laws.proofs.Blockwise.{take-table}
-use Rattle.residual.specs.Inverse.{inverse4x4, inRange4x4}
-use Rattle.residual.specs.inner.Quads.{quadInverse, quadInRange}
-use Rattle.residual.proofs.InRange.{part-in-range}
-use Rattle.residual.proofs.Quads.{zero-inverse, zero-range}
+use lib.ListN.{length, drop, replicate, length-take}
+use Rattle.residual.proofs.Quads.{first-uncoded, first-small, zero-inverse, zero-range}
 use borrow.Author.Needs.{needs}
 use Rattle.residual.proofs.inverse.invert_quad.Statement.{statement}
 use Rattle.residual.proofs.inverse.invert_quad.Tie as tie
@@ -25,7 +20,7 @@ returns c =
     let u = f .before .before .before in
     let d = u .args .d .now in
     let o = u .args .out .now in
-    let z = u .pre .3 (not-true _ (f .before .before .if1 .taken)) in
+    let z = first-uncoded d (sym (u .pre .3) ∙ f .before .before .if1 .taken) in
     let n : min 64 (length o) ≡ 64 = omega (arith, u .pre .1) in (
       sym (zero-range d z (u .pre .2)),
       ap (λ t. t ++ drop 64 o) (f .fill-all .ensures ∙ ap (λ k. replicate k (pos 0)) (length-take 64 o ∙ n) ∙ sym (zero-inverse d z)),
@@ -37,30 +32,10 @@ flatten-requires c κs =
     let u = t .before .before .before in
     (u .pre .0, u .pre .1, u .pre .2, t .before .only-firsts .ensures (t .if2 .taken))
 
-slice-aggregate-invert-all : tie.Need-slice-aggregate-invert-all
-slice-aggregate-invert-all c = let u = c .before .before .before .before in omega (arith, length-take 64 (u .args .d .now), u .pre .0)
-
-slice-aggregate-invert-all-2 : tie.Need-slice-aggregate-invert-all-2
-slice-aggregate-invert-all-2 c = let u = c .before .before .before .before .before in omega (arith, length-take 64 (u .args .out .now), u .pre .1)
-
-invert-all-requires : tie.Need-invert-all-requires
-invert-all-requires c κs =
-    let u = c .before .before .before .before .before in
-    let d = u .args .d .now in
-    let long = length-take 64 d in
-    (omega (arith, long, u .pre .0), omega (arith, long, length-take 64 (u .args .out .now), u .pre .0, u .pre .1), part-in-range 0 64 d (u .pre .2))
-
-returns-3 : tie.Need-returns-3
-unfolding quadInverse quadInRange
-returns-3 c =
-    let m = c .before in
-    let u = m .before .before .before .before .before .before in
-    let d = u .args .d .now in
-    let o = u .args .out .now in
-    let t = take-table 64 d (u .pre .0) in (
-      m .invert-all .ensures .0 ∙ ap (allBlocks 16 inRange4x4) t,
-      ap (λ t. t ++ drop 64 o) (m .invert-all .ensures .1 ∙ ap (blockwise 16 inverse4x4) t),
-    )
+invert-four-requires : tie.Need-invert-four-requires
+invert-four-requires c κs =
+    let u = c .before .before .before .before in
+    (u .pre .0, u .pre .1, u .pre .2, λ e. first-small (u .args .d .now) (sym (u .pre .3) ∙ eqb-true _ 1 e))
 
 pub invert-quad-spec : {M : Type 1} → statement M
 invert-quad-spec =
@@ -75,9 +50,6 @@ invert-quad-spec =
     flatten-requires
     (λ c. search needs)
     (λ c. search needs)
-    slice-aggregate-invert-all
+    invert-four-requires
     (λ c. search needs)
-    slice-aggregate-invert-all-2
-    invert-all-requires
-    (λ c. search needs)
-    returns-3)
+    (λ c. search needs))

@@ -1,5 +1,4 @@
 -- `residual::inverse::mark_coded` meets its contract: it refuses other lengths. Assumes nothing.
-use mathlib.Core.Path.{_≡_}
 use native.Mathlib.Omega.{arith}
 use borrow.Author.Tests.{eq-eqb, ne-eqb}
 use borrow.Author.Needs.{needs}

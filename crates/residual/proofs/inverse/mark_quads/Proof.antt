@@ -1,20 +1,20 @@
 -- `residual::inverse::mark_quads` meets its contract. The invariant: the first q quads are marked, and it is told whether their numbers are in range.
 -- Assumes nothing.
 use mathlib.Core.Path.{_≡_, refl, sym, ap, ap₂, _∙_}
-use mathlib.Core.Bool.{true, cond, _&&_}
-use Prim.Native.Nat.{_+_, _*_, _-_, _/_, _≤_}
+use mathlib.Core.Bool.{Bool, cond, _&&_}
+use Prim.Native.Nat.{ℕ, _+_, _*_, _-_, _/_, _≤_, _^_}
 use native.Mathlib.Omega.{arith}
-use borrow.Rule.Slice.PartMut.{midOf}
-use lib.IntN.{ℤ, pos}
+use lib.Dec.{ltb}
+use lib.IntN.{pos}
 use lib.ListN.{length}
-use lib.Signed.{leZ}
-use Rattle.laws.specs.Range.{at, minus}
+use mir.Facts.{toZ-ofZ}
+use Rattle.laws.specs.Range.{at}
 use Rattle.laws.specs.Table.{table, allBelow}
 use Rattle.laws.proofs.Tables.{Filled, filled-none, filled-more, filled-all}
-use Rattle.laws.proofs.Tests.{all-none, all-next}
-use Rattle.residual.specs.Numbers.{inRange, isZero}
+use Rattle.laws.proofs.Tests.{all-none, all-next, all-same}
+use Rattle.residual.specs.Numbers.{inRange, isZero, near}
 use Rattle.residual.specs.Quads.{codedQuad}
-use Rattle.residual.proofs.InRange.{lies}
+use Rattle.residual.proofs.Far.{near-range}
 use Rattle.residual.proofs.Quads.{quad-all, quads-numbers}
 use borrow.Author.Needs.{needs}
 use Rattle.residual.proofs.inverse.mark_quads.Statement.{statement}
@@ -30,27 +30,28 @@ abbrev μ-loop : tie.MeasureT-loop
 loop-holds : tie.Need-loop-holds Inv-loop μ-loop
 loop-holds c = (search needs, filled-none 0 _ _ _ refl, sym (all-none _))
 
--- what the span of quad q tells, between two numbers around 0
-told : (c : tie.After-with-list Inv-loop μ-loop) (low high : ℤ) → leZ low (pos 0) ≡ true → leZ (pos 0) high ≡ true → let b = c .before .before .before .before in
-    leZ low (c .with-list .result .low) && leZ (c .with-list .result .high) high
-    ≡ allBelow 64 (λ k. let z = at (b .before .before .args .list .now) (64 * b .loop .q + k) in leZ low z && leZ z high)
-told c low high p q =
-    let n = c .before .before in
-    let b = n .before .before in
+-- what the reach of quad q tells
+told : (w : tie.After-with-list Inv-loop μ-loop) (k : ℕ) → let b = w .before .before .before in
+    ltb (w .with-list .result) (2 ^ k) ≡ ltb 0 (2 ^ k) && allBelow 64 (λ i. near k (at (b .before .before .args .list .now) (64 * b .loop .q + i)))
+told w k =
+    let b = w .before .before .before in
     let u = b .before .before in
-    let l = u .args .list .now in
-    lies (midOf (64 * b .loop .q) (64 * b .loop .q + 64 - 64 * b .loop .q) l) low high (n .no-span .result) (c .with-list .result) p q (n .no-span .ensures) (c .with-list .ensures .0 low) (c .with-list .ensures .1 high)
-    ∙ quad-all l (λ z. leZ low z && leZ z high) (b .loop .q) (omega (arith, u .pre))
+    w .with-list .ensures k ∙ ap (λ t. ltb 0 (2 ^ k) && t) (quad-all (u .args .list .now) (near k) (b .loop .q) (omega (arith, u .pre)))
 
 loop-again : tie.Need-loop-again Inv-loop μ-loop
-unfolding inRange isZero codedQuad
+unfolding codedQuad isZero
 loop-again c =
-    let m = c .before .before in
-    let w = m .before in
-    let b = w .before .before .before .before in (
+    let m = c .before in
+    let a = m .before in
+    let w = a .before in
+    let b = w .before .before .before in
+    let u = b .before .before in
+    let l = u .args .list .now in
+    let z = a .any-of .ensures .1 ∙ ap (λ t. isZero (pos 0) && t) (quad-all l isZero (b .loop .q) (omega (arith, u .pre))) in
+    let mark = simp (toZ-ofZ, a .any-of .ensures .0) at (m .mark-of .ensures) in (
       omega arith,
-      filled-more 0 _ _ _ _ _ (omega arith) (b .loop .inv .1) (m .mark-of .ensures ∙ ap (λ t. cond t 0 1) (told w (pos 0) (pos 0) refl refl)),
-      c .both .ensures ∙ ap₂ _&&_ (b .loop .inv .2) (c .before .lies-in .ensures ∙ told w (minus 32768) (pos 32767) refl refl) ∙ all-next (b .loop .q) _,
+      filled-more 0 _ _ _ _ _ (omega arith) (b .loop .inv .1) (mark ∙ ap₂ (λ (t s : Bool). cond t 0 (cond s 1 2)) z (told w 11)),
+      c .both .ensures ∙ ap₂ _&&_ (b .loop .inv .2) (told w 15 ∙ all-same 64 _ _ (λ k _. near-range (at l (64 * b .loop .q + k)))) ∙ all-next (b .loop .q) _,
     )
 
 same-length : tie.Need-same-length Inv-loop μ-loop
@@ -74,7 +75,6 @@ mark-quads-spec =
     Inv-loop
     μ-loop
     loop-holds
-    (λ c κs. search needs)
     (λ c. search needs)
     (λ c. search needs)
     (λ c. search needs)
@@ -84,8 +84,8 @@ mark-quads-spec =
     (λ c. search needs)
     (λ c κs. search needs)
     (λ c κs. search needs)
-    (λ c. search needs)
     (λ c κs. search needs)
+    (λ c. search needs)
     (λ c κs. search needs)
     (λ c. search needs)
     (λ c. search needs)

@@ -1,10 +1,9 @@
 -- `residual::reconstruct::put_four` meets its contract: four sums, one after the other. Assumes nothing.
-use mathlib.Core.Path.{_≡_}
 use Prim.Native.Nat.{ℕ, _+_}
 use native.Mathlib.Omega.{arith}
 use borrow.Author.Needs.{needs}
 use lib.IntN.{pos, _+ℤ_}
-use lib.ListN.{length, getD, length-set}
+use lib.ListN.{getD, length-set}
 use Rattle.laws.specs.Range.{at}
 use Rattle.laws.proofs.Patches.{front-none, front-next}
 use Rattle.basics.specs.Clip.{Clip1}

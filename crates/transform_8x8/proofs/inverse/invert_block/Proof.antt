@@ -1,15 +1,11 @@
 -- `transform_8x8::inverse::invert_block` meets its contract: the easy forms are what the transform gives. Assumes nothing.
 use mathlib.Core.Path.{_≡_, sym, ap, _∙_}
-use mathlib.Core.Bool.{_&&_}
 use mathlib.Core.List.{_++_}
 use Prim.Native.Nat.{min}
 use native.Mathlib.Omega.{arith}
 use borrow.Author.Tests.{not-true}
 use lib.IntN.{pos}
 use lib.ListN.{length, drop, replicate, length-take}
-use Rattle.residual.specs.Extents.{held}
-use Rattle.residual.proofs.Extents.{none-held}
-use Rattle.transform_8x8.specs.Inverse8x8.{inRange8x8}
 use Rattle.transform_8x8.proofs.Firsts.{zero-inverse, zero-range}
 use borrow.Author.Needs.{needs}
 use Rattle.transform_8x8.proofs.inverse.invert_block.Statement.{statement}
@@ -36,13 +32,6 @@ flat-requires c κs =
     let u = t .before .before .before in
     (u .pre .0, u .pre .1, u .pre .2, t .before .only-first .ensures (t .if2 .taken))
 
-returns-3 : tie.Need-returns-3
-returns-3 c =
-    let i = c .before .before in
-    let e = i .before in
-    let u = e .before .before .before .before .before in
-    (c .holds .ensures ∙ i .invert .ensures .0 ∙ ap (λ t. t && inRange8x8 (u .args .d .now)) (ap held (e .no-extent .ensures) ∙ none-held), i .invert .ensures .1)
-
 pub invert-block-spec : {M : Type 1} → statement M
 invert-block-spec =
     tie.close
@@ -57,7 +46,5 @@ invert-block-spec =
     (λ c. search needs)
     (λ c. search needs)
     (λ c κs. search needs)
-    (λ c κs. search needs)
-    (λ c κs. search needs)
     (λ c. search needs)
-    returns-3)
+    (λ c. search needs))

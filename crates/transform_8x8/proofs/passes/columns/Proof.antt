@@ -1,17 +1,17 @@
--- `transform_8x8::passes::columns` meets its contract. The invariant: the first j columns are put, and the extent tells of them. Assumes nothing.
+-- `transform_8x8::passes::columns` meets its contract. The invariant: the first j columns are put, and the reach tells of them. Assumes nothing.
 use mathlib.Core.Path.{_≡_, refl, sym, ap, ap₂, _∙_, subst}
 use mathlib.Core.Bool.{Bool, true, false, _&&_}
 use mathlib.Core.List.{List}
 use Prim.Native.Nat.{ℕ, _+_, _*_, _-_, _/_, _%_, _<_, _≤_}
 use native.Mathlib.Omega.{arith}
 use lib.IntN.{ℤ}
+use lib.ListN.{length}
 use Rattle.laws.specs.Range.{AllWithin, at}
 use Rattle.laws.specs.Table.{allBelow}
 use Rattle.laws.proofs.Tests.{all-start, all-after}
-use Rattle.residual.specs.Extents.{held, allOfFour}
 use Rattle.residual.specs.Inverse.{rounded}
-use Rattle.residual.specs.Numbers.{inRange, lastInRange}
-use Rattle.transform_8x8.specs.Inverse8x8.{oneDimensional}
+use Rattle.residual.specs.Numbers.{inRange, allOf, held, lastInRange}
+use Rattle.transform_8x8.specs.Inverse8x8.{thirdStep, oneDimensional}
 use Rattle.transform_8x8.specs.inner.ByColumn.{ByColumn, columnAt}
 use Rattle.transform_8x8.specs.inner.Told.{oddOf, allOfEight, columnIn, columnTold}
 use Rattle.transform_8x8.proofs.Bounded.{third-all}
@@ -21,10 +21,10 @@ use Rattle.transform_8x8.proofs.passes.columns.Statement.{statement}
 use Rattle.transform_8x8.proofs.passes.columns.Tie as tie
 
 abbrev Inv-loop : tie.InvT-loop
-Inv-loop g out₀ seen₀ j₀ out seen j = (j ≤ 8) × ByColumn (columnAt g) out₀ (8 * j) out × (held seen ≡ held seen₀ && allBelow j (columnTold g))
+Inv-loop g out₀ x reach₀ j₀ out reach j = (j ≤ 8) × ByColumn (columnAt g) out₀ (8 * j) out × (held reach ≡ held x && allBelow j (columnTold g))
 
 abbrev μ-loop : tie.MeasureT-loop
-μ-loop g out₀ seen₀ j₀ out seen j = 8 - j
+μ-loop g out₀ x reach₀ j₀ out reach j = 8 - j
 
 loop-holds : tie.Need-loop-holds Inv-loop μ-loop
 loop-holds c = (omega arith, by-none _ _, all-start _ _)
@@ -46,13 +46,17 @@ put-column-requires c κs =
       subst (AllWithin 1782272) (sym (r .column .ensures .1)) (third-all 30208 _ (λ i. u .pre .1 .each (8 * i + b .loop .j))),
     )
 
+eight : (f : ℕ → ℤ) → length (oneDimensional f) ≡ 8
+unfolding thirdStep
+eight f = refl
+
 three : (s a b c : Bool) → s && a && b && c ≡ s && (a && b && c)
 three true a b c = refl
 three false a b c = refl
 
 loop-again : tie.Need-loop-again Inv-loop μ-loop
 loop-again c =
-    let o = c .before in
+    let o = c .before .before in
     let w = o .before in
     let p = w .before .before in
     let r = p .before .before .before .before in
@@ -60,15 +64,17 @@ loop-again c =
     let u = b .before in
     let g = u .args .g .now in
     let j = b .loop .j in
-    let odd = allOfFour inRange (oddOf (r .column .result .e)) in
+    let odd = allOf inRange (oddOf (r .column .result .e)) in
     let next : 8 * j + 8 ≡ 8 * (j + 1) = omega arith in (
       omega arith,
       by-at (columnAt g) (u .args .out .now) next
           (p .put-column .ensures (columnAt g) (u .args .out .now) (λ i h. ap (λ l. rounded (at l i)) (r .column .ensures .1) ∙ in-column g i j (omega arith)) (b .loop .inv .1)),
-      c .with-last-eight .ensures ∙ ap (λ t. t && allOfEight lastInRange (r .column .result .g)) (o .with-odd .ensures ∙ ap (λ t. t && odd) (w .with-column .ensures))
-          ∙ three (held (b .loop .seen)) (columnIn g j) odd _
-          ∙ all-after (held (b .loop .seen)) (held (u .args .x)) _ j (columnTold g) (b .loop .inv .2)
-          (ap₂ (λ h m. columnIn g j && allOfFour inRange (oddOf h) && allOfEight lastInRange m) (r .column .ensures .0) (r .column .ensures .1)),
+      c .with-last-list .ensures
+          ∙ ap (λ n. held (o .with-odd .result) && allBelow n (λ k. lastInRange (at (r .column .result .g) k))) (ap length (r .column .ensures .1) ∙ eight _)
+          ∙ ap (λ t. t && allOfEight lastInRange (r .column .result .g)) (o .with-odd .ensures ∙ ap (λ t. t && odd) (w .with-column .ensures))
+          ∙ three (held (b .loop .reach)) (columnIn g j) odd _
+          ∙ all-after (held (b .loop .reach)) (held (u .args .x)) _ j (columnTold g) (b .loop .inv .2)
+          (ap₂ (λ h m. columnIn g j && allOf inRange (oddOf h) && allOfEight lastInRange m) (r .column .ensures .0) (r .column .ensures .1)),
     )
 
 same-length : tie.Need-same-length Inv-loop μ-loop
@@ -88,5 +94,18 @@ returns c =
 pub columns-spec : {M : Type 1} → statement M
 columns-spec =
     tie.close
-    (tie.spec Inv-loop μ-loop loop-holds (λ c κs. search needs) put-column-requires (λ c κs. search needs) (λ c κs. search needs) (λ c κs. search needs) (λ c. search needs)
-    (λ c. search needs) loop-again same-length returns)
+    (tie.spec
+    Inv-loop
+    μ-loop
+    loop-holds
+    (λ c κs. search needs)
+    put-column-requires
+    (λ c κs. search needs)
+    (λ c κs. search needs)
+    (λ c. search needs)
+    (λ c κs. search needs)
+    (λ c. search needs)
+    (λ c. search needs)
+    loop-again
+    same-length
+    returns)

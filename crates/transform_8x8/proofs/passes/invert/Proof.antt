@@ -1,6 +1,6 @@
--- `transform_8x8::passes::invert` meets its contract: the columns are those of the transformed rows, and the extents of both tell of every value. Assumes
+-- `transform_8x8::passes::invert` meets its contract: the columns are those of the transformed rows, and the reach of both tells of every value. Assumes
 -- nothing.
-use mathlib.Core.Path.{_≡_, sym, ap, _∙_, subst}
+use mathlib.Core.Path.{_≡_, sym, ap, ap₂, _∙_, subst}
 use mathlib.Core.Bool.{_&&_}
 use Prim.Native.Nat.{_/_, _%_}
 use lib.IntN.{pos}
@@ -10,11 +10,9 @@ use Rattle.laws.specs.Table.{table, allBelow}
 use Rattle.laws.proofs.Ints.{within-table}
 use Rattle.laws.proofs.Ontos.{onto-same}
 use Rattle.laws.proofs.Tables.{length-table}
-use Rattle.laws.proofs.Tests.{and-assoc}
-use Rattle.residual.specs.Extents.{held}
 use Rattle.transform_8x8.specs.Inverse8x8.{inverse8x8}
 use Rattle.transform_8x8.specs.inner.ByColumn.{rowAt, columnAt}
-use Rattle.transform_8x8.specs.inner.Told.{rowTold, columnTold}
+use Rattle.transform_8x8.specs.inner.Told.{columnTold}
 use Rattle.transform_8x8.proofs.Bounded.{bounds}
 use Rattle.transform_8x8.proofs.Columns.{residualAt, columns-are}
 use Rattle.transform_8x8.proofs.Halfway.{told}
@@ -43,15 +41,17 @@ returns c =
     let r = p .before .before .before .before in
     let u = r .before .before in
     let d = u .args .d .now in (
-      p .columns .ensures .0
-          ∙ ap (λ g. held (r .rows .result) && allBelow 8 (columnTold g)) (rows-are r)
-          ∙ ap (λ t. t && allBelow 8 (columnTold (table 64 (rowAt d)))) (r .rows .ensures .0)
-          ∙ and-assoc (held (u .args .x)) (allBelow 8 (rowTold d)) (allBelow 8 (columnTold (table 64 (rowAt d))))
-          ∙ ap (λ t. held (u .args .x) && t) (told d (u .pre .2)),
+      p .columns .ensures .0 ∙ ap₂ (λ t g. t && allBelow 8 (columnTold g)) (r .rows .ensures .0) (rows-are r) ∙ told d (u .pre .2),
       p .columns .ensures .1 ∙ onto-same 64 (columnAt (r .rows .last .1 .0)) (residualAt d) (u .args .out .now) (λ k h. ap (λ g. columnAt g k) (rows-are r) ∙ columns-are d k h),
     )
 
 pub invert-spec : {M : Type 1} → statement M
 invert-spec =
     tie.close
-    (tie.spec (λ c. search needs) (λ c κs. search needs) (λ c. search needs) columns-requires (λ c. search needs) returns)
+    (tie.spec
+    (λ c. search needs)
+    (λ c κs. search needs)
+    (λ c. search needs)
+    columns-requires
+    (λ c. search needs)
+    returns)

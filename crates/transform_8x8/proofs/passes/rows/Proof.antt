@@ -1,4 +1,4 @@
--- `transform_8x8::passes::rows` meets its contract. The invariant: the first i rows are put, and the extent tells of them. Assumes nothing.
+-- `transform_8x8::passes::rows` meets its contract. The invariant: the first i rows are put, and the reach tells of them. Assumes nothing.
 use mathlib.Core.Path.{_≡_, sym, ap, ap₂, _∙_}
 use mathlib.Core.Bool.{_&&_}
 use mathlib.Core.List.{List}
@@ -9,9 +9,8 @@ use lib.ListN.{length}
 use Rattle.laws.specs.Range.{at}
 use Rattle.laws.specs.Table.{onto, allBelow}
 use Rattle.laws.proofs.Ontos.{onto-none, onto-all, onto-long}
-use Rattle.laws.proofs.Tests.{all-start, all-after}
-use Rattle.residual.specs.Extents.{held, allOfFour}
-use Rattle.residual.specs.Numbers.{inRange}
+use Rattle.laws.proofs.Tests.{all-none, all-next}
+use Rattle.residual.specs.Numbers.{inRange, allOf, held}
 use Rattle.transform_8x8.specs.Inverse8x8.{gRow}
 use Rattle.transform_8x8.specs.inner.ByColumn.{rowAt}
 use Rattle.transform_8x8.specs.inner.Told.{oddOf, rowTold}
@@ -20,13 +19,13 @@ use Rattle.transform_8x8.proofs.passes.rows.Statement.{statement}
 use Rattle.transform_8x8.proofs.passes.rows.Tie as tie
 
 abbrev Inv-loop : tie.InvT-loop
-Inv-loop d g₀ seen₀ i₀ g seen i = (i ≤ 8) × (g ≡ onto (8 * i) (rowAt d) g₀) × (held seen ≡ held seen₀ && allBelow i (rowTold d))
+Inv-loop d g₀ reach₀ i₀ g reach i = (i ≤ 8) × (g ≡ onto (8 * i) (rowAt d) g₀) × (held reach ≡ allBelow i (rowTold d))
 
 abbrev μ-loop : tie.MeasureT-loop
-μ-loop d g₀ seen₀ i₀ g seen i = 8 - i
+μ-loop d g₀ reach₀ i₀ g reach i = 8 - i
 
 loop-holds : tie.Need-loop-holds Inv-loop μ-loop
-loop-holds c = (omega arith, onto-none _ _, all-start _ _)
+loop-holds c = (omega arith, onto-none _ _, sym (all-none _))
 
 -- the block has kept its length
 long : (c : tie.At-loop Inv-loop μ-loop) → length (c .loop .g) ≡ 64
@@ -54,7 +53,7 @@ loop-again c =
       omega arith,
       p .put-row .ensures (rowAt d) (u .args .g .now) (u .pre .2) (λ j h. ap (λ l. at l j) (r .row .ensures .1) ∙ in-row d i j h) (b .loop .inv .1)
           ∙ ap (λ n. onto n (rowAt d) (u .args .g .now)) next,
-      c .with-odd .ensures ∙ all-after (held (b .loop .seen)) (held (u .args .x)) _ i (rowTold d) (b .loop .inv .2) (ap (λ e. allOfFour inRange (oddOf e)) (r .row .ensures .0)),
+      c .with-odd .ensures ∙ ap₂ _&&_ (b .loop .inv .2) (ap (λ e. allOf inRange (oddOf e)) (r .row .ensures .0)) ∙ all-next i (rowTold d),
     )
 
 same-length : tie.Need-same-length Inv-loop μ-loop
@@ -67,12 +66,22 @@ returns c =
     let d = u .args .d .now in
     let all : 8 * b .loop .i ≡ 64 = omega arith in
     let eight : b .loop .i ≡ 8 = omega arith in (
-      b .loop .inv .2 ∙ ap (λ n. held (u .args .x) && allBelow n (rowTold d)) eight,
+      b .loop .inv .2 ∙ ap (λ n. allBelow n (rowTold d)) eight,
       b .loop .inv .1 ∙ ap (λ n. onto n (rowAt d) (u .args .g .now)) all ∙ onto-all 64 (rowAt d) (u .args .g .now) (u .pre .2),
     )
 
 pub rows-spec : {M : Type 1} → statement M
 rows-spec =
     tie.close
-    (tie.spec Inv-loop μ-loop loop-holds (λ c κs. search needs) put-row-requires (λ c κs. search needs) (λ c. search needs)
-    (λ c. search needs) loop-again same-length returns)
+    (tie.spec
+    Inv-loop
+    μ-loop
+    loop-holds
+    (λ c κs. search needs)
+    put-row-requires
+    (λ c κs. search needs)
+    (λ c. search needs)
+    (λ c. search needs)
+    loop-again
+    same-length
+    returns)

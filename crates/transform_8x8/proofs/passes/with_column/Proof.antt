@@ -1,16 +1,16 @@
--- `transform_8x8::passes::with_column` meets its contract: it is `with_four` of both halves of the column. Assumes nothing.
-use mathlib.Core.Path.{sym, ap, _∙_}
+-- `transform_8x8::passes::with_column` meets its contract: it is `with_list` of the column. Assumes nothing.
+use mathlib.Core.Path.{ap, _∙_, sym}
 use mathlib.Core.Bool.{Bool, _&&_}
+use mathlib.Core.List.{[], _∷_}
 use Prim.Native.Nat.{ℕ, _+_, _*_}
 use native.Mathlib.Nat.{zero-add}
 use mir.Facts.{toZ-ofZ}
-use borrow.Author.Needs.{needs, sfits-of}
 use Rattle.laws.specs.Range.{at}
 use Rattle.laws.specs.Table.{allBelow}
-use Rattle.laws.proofs.Tests.{all-eight}
-use Rattle.residual.specs.Extents.{held}
-use Rattle.residual.specs.Numbers.{inRange}
-use Rattle.residual.proofs.Extents.{four-held}
+use Rattle.residual.specs.Numbers.{inRange, held}
+use Rattle.residual.proofs.Far.{near-each}
+use borrow.Author.Needs.{needs, sfits-of}
+use borrow.Author.Needs.{needs}
 use Rattle.transform_8x8.proofs.passes.with_column.Statement.{statement}
 use Rattle.transform_8x8.proofs.passes.with_column.Tie as tie
 
@@ -18,28 +18,50 @@ use Rattle.transform_8x8.proofs.passes.with_column.Tie as tie
 returns : tie.Need-returns
 unfolding allBelow
 returns c =
-    let a4 = c .before in
-    let a3 = a4 .before in
-    let a2 = a3 .before in
-    let a1 = a2 .before in
-    let h = a1 .before in
-    let b4 = h .before in
-    let b3 = b4 .before in
-    let b2 = b3 .before in
-    let b1 = b2 .before in
-    let u = b1 .before in
-    let x = u .args .x in
+    let c7 = c .before .before in
+    let c6 = c7 .before in
+    let c5 = c6 .before in
+    let c4 = c5 .before in
+    let c3 = c4 .before in
+    let c2 = c3 .before in
+    let c1 = c2 .before in
+    let c0 = c1 .before in
+    let u = c0 .before in
     let j = u .args .j in
-    let f : ℕ → Bool = λ i. inRange (at (u .args .g .now) (8 * i + j)) in
-    let low = simp (toZ-ofZ, sfits-of, b1 .t7 .given, b2 .t11 .given, b3 .t15 .given, b4 .t19 .given) at (h .with-four .ensures) in
-    let high = simp (toZ-ofZ, sfits-of, a1 .t72 .given, a2 .t152 .given, a3 .t112 .given, a4 .t192 .given) at (c .with-four2 .ensures) in
-    let first = ap (λ n. held x && (inRange (at (u .args .g .now) n) && f 1 && f 2 && f 3)) (sym (zero-add j)) in
-    ap held high ∙ four-held _ _ ∙ ap (λ t. t && allBelow 4 (λ k. f (4 + k))) (ap held low ∙ four-held x _ ∙ first) ∙ all-eight (held x) f
+    let g = u .args .g .now in
+    let f : ℕ → Bool = λ i. inRange (at g (8 * i + j)) in
+    let all = simp (toZ-ofZ, sfits-of, c0 .t7 .given, c1 .t11 .given, c2 .t15 .given, c3 .t19 .given, c4 .t23 .given, c5 .t27 .given, c6 .t31 .given, c7 .t35 .given)
+    at (c .with-list .ensures 15) in
+    let column = at g j ∷ at g (8 + j) ∷ at g (16 + j) ∷ at g (24 + j) ∷ at g (32 + j) ∷ at g (40 + j) ∷ at g (48 + j) ∷ at g (56 + j) ∷ [] in
+    all ∙ ap (λ t. held (u .args .x) && t) (near-each column ∙ ap (λ n. inRange (at g n) && f 1 && f 2 && f 3 && f 4 && f 5 && f 6 && f 7) (sym (zero-add j)))
 
 pub with-column-spec : {M : Type 1} → statement M
 with-column-spec =
     tie.close
-    (tie.spec (λ c. search needs) (λ c. search needs) (λ c. search needs) (λ c. search needs) (λ c. search needs) (λ c. search needs) (λ c. search needs)
-    (λ c. search needs) (λ c. search needs) (λ c. search needs) (λ c. search needs) (λ c κs. search needs) (λ c. search needs) (λ c. search needs)
-    (λ c. search needs) (λ c. search needs) (λ c. search needs) (λ c. search needs) (λ c. search needs) (λ c. search needs) (λ c. search needs)
-    (λ c. search needs) (λ c. search needs) (λ c. search needs) (λ c κs. search needs) returns)
+    (tie.spec
+    (λ c. search needs)
+    (λ c. search needs)
+    (λ c. search needs)
+    (λ c. search needs)
+    (λ c. search needs)
+    (λ c. search needs)
+    (λ c. search needs)
+    (λ c. search needs)
+    (λ c. search needs)
+    (λ c. search needs)
+    (λ c. search needs)
+    (λ c. search needs)
+    (λ c. search needs)
+    (λ c. search needs)
+    (λ c. search needs)
+    (λ c. search needs)
+    (λ c. search needs)
+    (λ c. search needs)
+    (λ c. search needs)
+    (λ c. search needs)
+    (λ c. search needs)
+    (λ c. search needs)
+    (λ c. search needs)
+    (λ c. search needs)
+    (λ c κs. search needs)
+    returns)
