@@ -1,6 +1,10 @@
 // Numbers of coefficients: the context nC (clause 9.2.1), and their order in a macroblock (clause 6.4.3).
 ghost use mathlib.Core.Path.{_≡_};
+ghost use mathlib.Core.List.{[], _∷_};
+ghost use lib.Dec.{eqb};
 ghost use lib.IntN.{pos};
+ghost use lib.ListN.{length};
+ghost use Rattle.laws.specs.Answer.{_unless_, answer, written};
 ghost use Rattle.basics.specs.Nnz.{nC, inRaster};
 
 // The number of a neighbour block's coefficients, where there is such a block.
@@ -25,8 +29,27 @@ pub fn nc_from_neighbors(a: Neighbor, b: Neighbor) -> i32
     }
 }
 
-// The numbers of a macroblock's 24 blocks, from scan order to raster order.
-pub fn nnz_raster_from_z(n: &[u8; 24]) -> [u8; 24]
+// The numbers of a macroblock's 24 blocks, from scan order to raster order, put into lent memory.
+pub fn nnz_raster_from_z(n: &[u8], out: &mut [u8]) -> u32
+    ensures { λ r. ⌜ r ≡ answer (2 unless eqb (length (now (n .entry))) 24 ∷ 2 unless eqb (length (now (out .entry))) 24 ∷ []) ⌝ }
+    ensures { λ r. ⌜ now (out .exit) ≡ written r (now (out .entry)) (inRaster (now (n .entry))) ⌝ }
+{
+    if n.len() != 24 {
+        return 2;
+    }
+    if out.len() != 24 {
+        return 2;
+    }
+    let raster = in_raster(n);
+    for k in 0..24 {
+        out[k] = raster[k];
+    }
+    0
+}
+
+// The same in an array: all are read before one is put, so that the compiler moves them at once.
+fn in_raster(n: &[u8]) -> [u8; 24]
+    requires { ⌜ length (now n) ≡ 24 ⌝ }
     ensures { λ r. ⌜ r ≡ inRaster (now (n .entry)) ⌝ }
 {
     [

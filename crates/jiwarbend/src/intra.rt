@@ -140,21 +140,7 @@ pub extern "C" fn jiwarbend_luma16x16_dc(
     ensures { λ r. ⌜ r ≡ answer (2 unless now (top .entry) has 16 ∷ 2 unless now (left .entry) has 16 ∷ 2 unless now (out .entry) has 1 ∷ []) ⌝ }
     ensures { λ r. ⌜ now (out .exit) ≡ written r (now (out .entry)) (dc 16 «avail_top» «avail_left» (near (now (top .entry)) (now (left .entry)) 0) ∷ []) ⌝ }
 {
-    if top.len() != 16 {
-        return 2;
-    }
-    if left.len() != 16 {
-        return 2;
-    }
-    if out.len() != 1 {
-        return 2;
-    }
-    let above = crate::lists::bytes16(top);
-    let beside = crate::lists::bytes16(left);
-    let sample = samples::intra_16x16::luma16x16_dc(avail_top, avail_left, &above, &beside);
-    let block = [sample];
-    crate::lists::put(out, &block);
-    0
+    samples::intra_16x16::luma16x16_dc(avail_top, avail_left, top, left, out)
 }
 
 #[no_mangle]

@@ -1,7 +1,6 @@
 // The library for C and Rust: every routine as a C function on numbers and slices of any length (include/jiwarbend.h).
 pub mod intra; // intra prediction
 pub mod intra_plane; // intra prediction from a plane
-mod lists; // slices as arrays, and blocks into slices
 pub mod pictures; // whole pictures, macroblock by macroblock
 pub mod reconstruct; // the inverse transforms and clipped sums
 pub mod small; // clip_u8, chroma_qp, numbers of coefficients, permitted modes

@@ -48,16 +48,7 @@ pub extern "C" fn jiwarbend_nnz_raster_from_z(n: &[u8], out: &mut [u8]) -> u32
     ensures { λ r. ⌜ r ≡ answer (2 unless now (n .entry) has 24 ∷ 2 unless now (out .entry) has 24 ∷ []) ⌝ }
     ensures { λ r. ⌜ now (out .exit) ≡ written r (now (out .entry)) (inRaster (now (n .entry))) ⌝ }
 {
-    if n.len() != 24 {
-        return 2;
-    }
-    if out.len() != 24 {
-        return 2;
-    }
-    let z = crate::lists::bytes24(n);
-    let raster = basics::nnz::nnz_raster_from_z(&z);
-    crate::lists::put(out, &raster);
-    0
+    basics::nnz::nnz_raster_from_z(n, out)
 }
 
 #[no_mangle]

@@ -8,20 +8,13 @@ use Rattle.laws.specs.Table.{sumOf}
 use Rattle.laws.proofs.Sums.{sum-same}
 use Rattle.laws.proofs.Tests.{not-both, and-left, and-both, cond-same}
 use Rattle.basics.specs.Marks.{permitted16x16, permittedChroma}
-use Rattle.basics.specs.Near.{Near, mean, dc, Agree}
+use Rattle.basics.specs.Near.{Near, dc, Agree}
+use Rattle.basics.proofs.Dc.{mean-same}
 use Rattle.samples.specs.Intra16x16.{predL}
 use Rattle.samples.specs.IntraChroma.{regionDc, predC}
 use Rattle.samples.specs.PlaneMode.{plane}
 use Rattle.samples.specs.WholePromise.{WholePromise}
 use Rattle.samples.proofs.PlaneMode.{plane-same}
-
--- a mean minds only the sides that are there
-mean-same : (n : ℕ) (above left : Bool) (a b l m : ℕ) → (above ≡ true → a ≡ b) → (left ≡ true → l ≡ m) → mean n above left a l ≡ mean n above left b m
-unfolding mean
-mean-same n true true a b l m f g = rw (f refl, g refl)
-mean-same n true false a b l m f g = rw (f refl)
-mean-same n false true a b l m f g = rw (g refl)
-mean-same n false false a b l m f g = refl
 
 -- what the rule of mode 3 says where it permits
 all-there : (t above left corner : Bool) → cond t (above && left && corner) false ≡ true → (above ≡ true) × (left ≡ true) × (corner ≡ true)
@@ -51,7 +44,7 @@ module _ (n : ℕ) (above left corner : Bool) (p q : Near) (same : Agree n n abo
       (λ _. mean-same 4 above left _ _ _ _ a l))
 
   -- with all three there, every sample of the two lines
-  ramp-same : (m k : ℕ) → 1 ≤ m → 2 * m ≤ n → (above ≡ true) × (left ≡ true) × (corner ≡ true) → (x y : ℕ) → plane m k p x y ≡ plane m k q x y
+  pub ramp-same : (m k : ℕ) → 1 ≤ m → 2 * m ≤ n → (above ≡ true) × (left ≡ true) × (corner ≡ true) → (x y : ℕ) → plane m k p x y ≡ plane m k q x y
   ramp-same m k one h (a, l, c) x y = ap (λ (f : ℕ → ℕ → ℕ). f x y) (plane-same m k p q one across down)
     where
       across : (i : ℕ) → i ≤ 2 * m → p i 0 ≡ q i 0

@@ -1,9 +1,10 @@
 // Intra 16x16 luma prediction (clause 8.3.3): 0 vertical, 1 horizontal, 2 DC, 3 plane.
 ghost use mathlib.Core.Path.{_≡_};
 ghost use Prim.Native.Nat.{ℕ, _≤_};
-ghost use mathlib.Core.List.{_++_};
+ghost use mathlib.Core.List.{[], _∷_, _++_};
+ghost use lib.Dec.{eqb};
 ghost use lib.ListN.{length, drop, replicate};
-ghost use Rattle.laws.specs.Answer.{written};
+ghost use Rattle.laws.specs.Answer.{_unless_, answer, written};
 ghost use Rattle.laws.specs.Table.{blockOf};
 ghost use Rattle.basics.specs.Marks.{permitted16x16, modeAnswer, predAnswer};
 ghost use Rattle.basics.specs.Near.{near, dc};
@@ -24,11 +25,29 @@ pub struct Pred16x16 {
     pub block: [u8; 256],
 }
 
-// The one sample of DC, from the marks of above and left and their samples.
-pub fn luma16x16_dc(avail_top: bool, avail_left: bool, top: &[u8; 16], left: &[u8; 16]) -> u8
-    ensures { λ r. ⌜ r ≡ dc 16 «avail_top» «avail_left» (near (now (top .entry)) (now (left .entry)) 0) ⌝ }
+// The one sample of DC, from the marks of above and left and their samples, put into lent memory.
+pub fn luma16x16_dc(
+    avail_top: bool,
+    avail_left: bool,
+    top: &[u8],
+    left: &[u8],
+    out: &mut [u8],
+) -> u32
+    ensures { λ r. ⌜ r ≡ answer
+        (2 unless eqb (length (now (top .entry))) 16 ∷ 2 unless eqb (length (now (left .entry))) 16 ∷ 2 unless eqb (length (now (out .entry))) 1 ∷ []) ⌝ }
+    ensures { λ r. ⌜ now (out .exit) ≡ written r (now (out .entry)) (dc 16 «avail_top» «avail_left» (near (now (top .entry)) (now (left .entry)) 0) ∷ []) ⌝ }
 {
-    dc_16x16(avail_top, avail_left, top, left)
+    if top.len() != 16 {
+        return 2;
+    }
+    if left.len() != 16 {
+        return 2;
+    }
+    if out.len() != 1 {
+        return 2;
+    }
+    out[0] = dc_16x16(avail_top, avail_left, top, left);
+    0
 }
 
 // The block of a mode, from the marks, the row above, the column to the left and the sample at the corner.
@@ -89,7 +108,7 @@ pub fn luma16x16_pred_into(
 }
 
 // The block of a mode over the first 256 bytes of `out`.
-pub(crate) fn predict_16x16(
+fn predict_16x16(
     mode: u8,
     avail_top: bool,
     avail_left: bool,
@@ -107,7 +126,7 @@ pub(crate) fn predict_16x16(
         return;
     }
     if mode < 2 {
-        across(16, left, out);
+        across(16, left, 0, 1, out);
         return;
     }
     if mode < 3 {
@@ -117,16 +136,20 @@ pub(crate) fn predict_16x16(
     plane_over(8, 5, top, left, corner, out);
 }
 
-// DC, which does not read the corner.
+// DC, which does not read the corner. Each case adds up its own sides, left first: then the compiler adds sixteen samples at once.
 fn dc_16x16(avail_top: bool, avail_left: bool, top: &[u8], left: &[u8]) -> u8
     requires { ⌜ (16 ≤ length (now top)) × (16 ≤ length (now left)) ⌝ }
     ensures { λ r. ⌜ ((corner : ℕ) → r ≡ dc 16 «avail_top» «avail_left» (near (now (top .entry)) (now (left .entry)) corner)) ⌝ }
 {
-    mean_of(
-        16,
-        avail_top,
-        avail_left,
-        sum_of(top, 0, 16),
-        sum_of(left, 0, 16),
-    )
+    if avail_top {
+        if avail_left {
+            let l = sum_of(16, left, 0, 1);
+            return mean_of(16, true, true, sum_of(16, top, 0, 1), l);
+        }
+        return mean_of(16, true, false, sum_of(16, top, 0, 1), 0);
+    }
+    if avail_left {
+        return mean_of(16, false, true, 0, sum_of(16, left, 0, 1));
+    }
+    128
 }

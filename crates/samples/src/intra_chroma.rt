@@ -92,7 +92,7 @@ pub fn chroma8x8_pred_into(
 }
 
 // The block of a mode over the first 64 bytes of `out`.
-pub(crate) fn predict_chroma(
+fn predict_chroma(
     mode: u8,
     avail_top: bool,
     avail_left: bool,
@@ -110,7 +110,7 @@ pub(crate) fn predict_chroma(
         return;
     }
     if mode < 2 {
-        across(8, left, out);
+        across(8, left, 0, 1, out);
         return;
     }
     if mode < 3 {
@@ -136,10 +136,10 @@ fn regions(avail_top: bool, avail_left: bool, top: &[u8], left: &[u8]) -> [u8; 4
     ensures { λ r. ⌜ ((corner : ℕ) → r
         ≡ table 4 (λ k. regionDc «avail_top» «avail_left» (near (now (top .entry)) (now (left .entry)) corner) (k % 2 * 4) (k / 2 * 4))) ⌝ }
 {
-    let a0 = sum_of(top, 0, 4);
-    let a4 = sum_of(top, 4, 4);
-    let l0 = sum_of(left, 0, 4);
-    let l4 = sum_of(left, 4, 4);
+    let a0 = sum_of(4, top, 0, 1);
+    let a4 = sum_of(4, top, 4, 1);
+    let l0 = sum_of(4, left, 0, 1);
+    let l4 = sum_of(4, left, 4, 1);
     [
         mean_of(4, avail_top, avail_left, a0, l0),
         mean_of(4, avail_top, only(avail_left, avail_top), a4, l0),

@@ -7,15 +7,18 @@ ghost use lib.Dec.{leb};
 ghost use lib.ListN.{length, drop};
 ghost use Rattle.laws.specs.Answer.{written};
 ghost use Rattle.laws.specs.Table.{blockOf};
-ghost use Rattle.basics.specs.Near.{nearIn};
+ghost use Rattle.basics.specs.Near.{nearIn, dc};
 ghost use Rattle.samples.specs.Intra16x16.{predL};
 ghost use Rattle.samples.specs.IntraChroma.{predC};
 ghost use Rattle.samples.specs.IntraPlane.{roomRound, planeAnswer};
 ghost use Rattle.samples.specs.inner.Surroundings.{Surroundings};
-use super::intra_16x16::predict_16x16;
+use super::line::across;
 use super::line::down;
 use super::line::side_of;
+use super::line::sum_of;
 use super::plane_mode::plane_over;
+use basics::fill::fill;
+use basics::mean::mean_of;
 
 // 16x16 luma at `base` of the plane `rec`, into the first 256 bytes of `pred`. Modes 0 to 3.
 pub fn i16x16_luma_pred(mode: u8, pred: &mut [u8], rec: &[u8], base: usize, stride: usize) -> u32
@@ -67,9 +70,31 @@ fn luma_at(mode: u8, pred: &mut [u8], rec: &[u8], base: usize, stride: usize)
         down(16, &rec[base - stride..], pred);
         return;
     }
+    if mode < 2 {
+        across(16, rec, base - 1, stride, pred);
+        return;
+    }
+    if mode < 3 {
+        fill(dc_at(rec, base, stride), &mut pred[0..256]);
+        return;
+    }
     let left = side_of(16, rec, base - 1, stride);
     let corner = rec[base - stride - 1];
-    predict_16x16(mode, true, true, &rec[base - stride..], &left, corner, pred);
+    plane_over(8, 5, &rec[base - stride..], &left, corner, pred);
+}
+
+// DC of the sixteen samples above and the sixteen left.
+fn dc_at(rec: &[u8], base: usize, stride: usize) -> u8
+    requires { ⌜ Surroundings 16 (length (now rec)) base stride ⌝ }
+    ensures { λ r. ⌜ r ≡ dc 16 true true (nearIn (now (rec .entry)) (base - stride - 1) stride) ⌝ }
+{
+    mean_of(
+        16,
+        true,
+        true,
+        sum_of(16, rec, base - stride, 1),
+        sum_of(16, rec, base - 1, stride),
+    )
 }
 
 fn chroma_at(mode: u8, pred: &mut [u8], rec: &[u8], base: usize, stride: usize)

@@ -32,14 +32,14 @@ pub(crate) fn side_of(n: usize, plane: &[u8], at: usize, stride: usize) -> [u8; 
     f
 }
 
-// The sum of n samples of a side, from number `from` on.
-pub(crate) fn sum_of(side: &[u8], from: usize, n: usize) -> u32
-    requires { ⌜ (from + n ≤ length (now side)) × (n ≤ 16) ⌝ }
-    ensures { λ r. ⌜ (r ≡ sumOf n (λ i. getD (now (side .entry)) (from + i) 0)) × (r ≤ 255 * n) ⌝ }
+// The sum of the n samples from `at` on, `stride` apart.
+pub(crate) fn sum_of(n: usize, plane: &[u8], at: usize, stride: usize) -> u32
+    requires { ⌜ (n ≤ 16) × ((i : ℕ) → i < n → at + i * stride < length (now plane)) ⌝ }
+    ensures { λ r. ⌜ (r ≡ sumOf n (λ i. getD (now (plane .entry)) (at + i * stride) 0)) × (r ≤ 255 * n) ⌝ }
 {
     let mut s: u32 = 0;
     for i in 0..n {
-        s += wide(side[from + i]);
+        s += wide(plane[at + i * stride]);
     }
     s
 }
@@ -65,13 +65,13 @@ pub(crate) fn down(n: usize, top: &[u8], out: &mut [u8])
     }
 }
 
-// A block of side n, each row of which is its sample to the left.
-pub(crate) fn across(n: usize, left: &[u8], out: &mut [u8])
-    requires { ⌜ (1 ≤ n) × (n ≤ 16) × (n ≤ length (now left)) × (n * n ≤ length (now out)) ⌝ }
-    ensures { λ _. ⌜ now (out .exit) ≡ onto (n * n) (λ k. getD (now (left .entry)) (k / n) 0) (now (out .entry)) ⌝ }
+// A block of side n, each row of which is its sample to the left: those from `at` on, `stride` apart.
+pub(crate) fn across(n: usize, plane: &[u8], at: usize, stride: usize, out: &mut [u8])
+    requires { ⌜ (1 ≤ n) × (n ≤ 16) × ((i : ℕ) → i < n → at + i * stride < length (now plane)) × (n * n ≤ length (now out)) ⌝ }
+    ensures { λ _. ⌜ now (out .exit) ≡ onto (n * n) (λ k. getD (now (plane .entry)) (at + k / n * stride) 0) (now (out .entry)) ⌝ }
 {
     for y in 0..n {
-        let at = y * n;
-        fill(left[y], &mut out[at..at + n]);
+        let row = y * n;
+        fill(plane[at + y * stride], &mut out[row..row + n]);
     }
 }

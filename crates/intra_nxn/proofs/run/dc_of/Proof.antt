@@ -38,7 +38,7 @@ returns c p run =
     let s = c .before .before .before in
     let h = c .before .before .loop .inv in
     let end : c .before .before .loop .i ≡ s .args .n = omega arith in
-    dc-is (s .args .n) (s .args .above) (s .args .left) p _ _ (omega arith) (c .mean-of .ensures) (rw end at (h .1), rw end at (h .3)) (rw end at (h .2), rw end at (h .4))
+    dc-is (s .args .n) (s .args .above) (s .args .left) p _ _ (omega arith) (c .mean-of .ensures) (λ _. (rw end at (h .1), rw end at (h .3))) (λ _. (rw end at (h .2), rw end at (h .4)))
     (λ k l. ap (λ (z : ℕ). getD (now (s .args .e)) z 0) (omega arith) ∙ run .above (k + 1) (omega arith))
     (λ k l. ap (λ (z : ℕ). getD (now (s .args .e)) z 0) (omega arith) ∙ run .left (k + 1) (omega arith))
 
