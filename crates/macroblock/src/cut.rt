@@ -7,7 +7,8 @@ ghost use Rattle.basics.specs.Nnz.{blkIdx};
 ghost use Rattle.maps.specs.Neighbours.{marksOf};
 ghost use Rattle.macroblock.specs.Cut.{scanX, scanY, sidesOf, squareSides, placeOf};
 ghost use Rattle.macroblock.specs.Kinds.{cutFor};
-ghost use Rattle.macroblock.specs.inner.Blocks.{BlockOf, Low};
+ghost use Rattle.macroblock.specs.inner.Blocks.{BlockOf, Low, lumaPlace};
+use super::Strides;
 use maps::neighbours::Marks;
 
 // How many blocks of a kind's luma are in a row.
@@ -53,16 +54,24 @@ pub(crate) struct Place {
     pub column: usize,
 }
 
-// Where block k stands, of m across in a square that stands there.
-pub(crate) fn place_of(k: usize, m: usize, place: Place) -> Place
+// Where a macroblock stands, in columns and rows of macroblocks and in planes with these strides, and which of its neighbours are there.
+pub(crate) struct Spot {
+    pub x: usize,
+    pub y: usize,
+    pub strides: Strides,
+    pub marks: Marks,
+}
+
+// Where luma block k of m across stands.
+pub(crate) fn place_of(k: usize, m: usize, spot: Spot) -> Place
     requires { ⌜ BlockOf m k ⌝ }
-    requires { ⌜ Low place ⌝ }
-    ensures { λ r. ⌜ r ≡ placeOf m place k ⌝ }
+    requires { ⌜ Low (lumaPlace spot) ⌝ }
+    ensures { λ r. ⌜ r ≡ placeOf m (lumaPlace spot) k ⌝ }
 {
-    let row = place.row * m + scan_y(k);
-    let column = place.column * m + scan_x(k);
+    let row = spot.y * m + scan_y(k);
+    let column = spot.x * m + scan_x(k);
     Place {
-        stride: place.stride,
+        stride: spot.strides.luma,
         row,
         column,
     }

@@ -1,12 +1,13 @@
 // One macroblock in its three planes, from a record and the marks of its four neighbours (clauses 8.3 and 8.5).
 ghost use mathlib.Core.Path.{_≡_};
-ghost use Prim.Native.Nat.{_<_};
+ghost use mathlib.Core.Bool.{true};
+ghost use mathlib.Core.List.{[], _∷_};
 ghost use lib.ListN.{length};
 ghost use Rattle.laws.specs.Answer.{answer, written};
 ghost use Rattle.maps.specs.Neighbours.{marksOf};
 ghost use Rattle.macroblock.specs.Kinds.{recordOf, lumaSquare, cbSquare, crSquare};
-ghost use Rattle.macroblock.specs.Rules.{rooms, rebuildAnswer};
-ghost use Rattle.macroblock.specs.inner.Blocks.{Prepared};
+ghost use Rattle.macroblock.specs.Rules.{rooms, earlyRules, numbersRule, rebuildAnswer};
+use cut::Spot;
 use maps::neighbours::Marks;
 use planes::all_squares;
 use residuals::residuals_of;
@@ -61,77 +62,58 @@ pub fn rebuild(
     ensures { λ r. ⌜ now (cr .exit) ≡ written r (now (cr .entry))
         (crSquare x y (marksOf marks) (recordOf kind (now (modes .entry)) «chroma_mode» (now (numbers .entry))) (strides .cr) (now (cr .entry))) ⌝ }
 {
-    let x = x as usize;
-    let y = y as usize;
-    let mut residuals = [0i16; 384];
-    let mut coded = [0u8; 6];
-    let answer = prepare(
-        x,
-        y,
-        luma,
-        cb,
-        cr,
+    let spot = Spot {
+        x: x as usize,
+        y: y as usize,
         strides,
         marks,
-        kind,
-        modes,
-        chroma_mode,
-        numbers,
-        &mut residuals,
-        &mut coded,
-    );
-    if answer != 0 {
-        return answer;
-    }
-    all_squares(
-        x,
-        y,
-        luma,
-        cb,
-        cr,
-        strides,
-        marks,
-        kind,
-        modes,
-        chroma_mode,
-        &residuals,
-        &coded,
-    );
-    0
-}
-
-// What the call is refused for, before anything is written; and where it is not, the residuals and which quads have a coefficient.
-fn prepare(
-    x: usize,
-    y: usize,
-    luma: &[u8],
-    cb: &[u8],
-    cr: &[u8],
-    strides: Strides,
-    marks: Marks,
-    kind: u8,
-    modes: &[u8],
-    chroma_mode: u8,
-    numbers: &[i32],
-    residuals: &mut [i16],
-    coded: &mut [u8],
-) -> u32
-    requires { ⌜ (x < 4294967296) × (y < 4294967296) × (length (now residuals) ≡ 384) × (length (now coded) ≡ 6) ⌝ }
-    ensures { λ r. ⌜ r ≡ rebuildAnswer
-        (rooms x y (length (now (luma .entry))) (length (now (cb .entry))) (length (now (cr .entry))) strides (marksOf marks))
-        (marksOf marks) (recordOf kind (now (modes .entry)) «chroma_mode» (now (numbers .entry))) ⌝ }
-    ensures { λ r. ⌜ (r ≡ 0 → Prepared x y (length (now (luma .entry))) (length (now (cb .entry))) (length (now (cr .entry))) strides (marksOf marks)
-        (recordOf kind (now (modes .entry)) «chroma_mode» (now (numbers .entry))) (now (residuals .exit)) (now (coded .exit))) ⌝ }
-{
-    if !has_rooms(x, y, luma, cb, cr, strides, marks) {
+    };
+    if !has_rooms(spot, luma.len(), cb.len(), cr.len()) {
         return 2;
     }
     let answer = record_answer(marks, kind, modes, chroma_mode, numbers);
     if answer != 0 {
         return answer;
     }
-    if !residuals_of(kind, numbers, residuals, coded) {
+    decode(spot, luma, cb, cr, kind, modes, chroma_mode, numbers)
+}
+
+// The macroblock of a record that is not refused before its numbers are read: all its residuals are made before anything is written.
+fn decode(
+    spot: Spot,
+    luma: &mut [u8],
+    cb: &mut [u8],
+    cr: &mut [u8],
+    kind: u8,
+    modes: &[u8],
+    chroma_mode: u8,
+    numbers: &[i32],
+) -> u32
+    requires { ⌜ rooms (spot .x) (spot .y) (length (now luma)) (length (now cb)) (length (now cr)) (spot .strides) (marksOf (spot .marks)) ≡ true ⌝ }
+    requires { ⌜ answer (earlyRules (marksOf (spot .marks)) (recordOf kind (now modes) «chroma_mode» (now numbers))) ≡ 0 ⌝ }
+    ensures { λ r. ⌜ r ≡ answer (numbersRule (recordOf kind (now (modes .entry)) «chroma_mode» (now (numbers .entry))) ∷ []) ⌝ }
+    ensures { λ r. ⌜ now (luma .exit) ≡ written r (now (luma .entry)) (lumaSquare (spot .x) (spot .y) (marksOf (spot .marks))
+        (recordOf kind (now (modes .entry)) «chroma_mode» (now (numbers .entry))) (spot .strides .luma) (now (luma .entry))) ⌝ }
+    ensures { λ r. ⌜ now (cb .exit) ≡ written r (now (cb .entry)) (cbSquare (spot .x) (spot .y) (marksOf (spot .marks))
+        (recordOf kind (now (modes .entry)) «chroma_mode» (now (numbers .entry))) (spot .strides .cb) (now (cb .entry))) ⌝ }
+    ensures { λ r. ⌜ now (cr .exit) ≡ written r (now (cr .entry)) (crSquare (spot .x) (spot .y) (marksOf (spot .marks))
+        (recordOf kind (now (modes .entry)) «chroma_mode» (now (numbers .entry))) (spot .strides .cr) (now (cr .entry))) ⌝ }
+{
+    let mut residuals = [0i16; 384];
+    let mut coded = [0u8; 6];
+    if !residuals_of(kind, numbers, &mut residuals, &mut coded) {
         return 8;
     }
+    all_squares(
+        spot,
+        luma,
+        cb,
+        cr,
+        kind,
+        modes,
+        chroma_mode,
+        &residuals,
+        &coded,
+    );
     0
 }

@@ -2,11 +2,9 @@
 ghost use mathlib.Core.Path.{_≡_};
 ghost use mathlib.Core.Bool.{false};
 ghost use Prim.Native.Nat.{ℕ, _+_, _*_, _≤_, _<_};
-ghost use lib.IntN.{pos, _+ℤ_};
-ghost use lib.ListN.{getD, length};
-ghost use Rattle.laws.specs.Patch.{patch};
+ghost use lib.IntN.{pos};
+ghost use lib.ListN.{length};
 ghost use Rattle.laws.specs.Range.{at};
-ghost use Rattle.basics.specs.Clip.{Clip1};
 ghost use Rattle.residual.specs.Reconstruct.{putSquare};
 ghost use Rattle.macroblock.specs.Square.{putBlock};
 ghost use Rattle.macroblock.specs.inner.Blocks.{BlockIn, RoomIn, Coded, inPiece, inPieces, sumOver, added};

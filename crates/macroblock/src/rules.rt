@@ -11,8 +11,8 @@ ghost use Rattle.laws.specs.Answer.{answer};
 ghost use Rattle.maps.specs.Neighbours.{marksOf};
 ghost use Rattle.macroblock.specs.Kinds.{recordOf};
 ghost use Rattle.macroblock.specs.Rules.{room, rooms, used, lastMode, permittedFor, known, permitted, earlyRules};
-use super::Strides;
 use super::cut::Sides;
+use super::cut::Spot;
 use super::cut::across;
 use super::cut::sides_of;
 use maps::neighbours::Marks;
@@ -33,22 +33,14 @@ fn has_room(q: usize, len: usize, stride: usize, x: usize, y: usize, marks: Mark
     both(right, implies(marks.d, both(x > 0, y > 0)))
 }
 
-// The same of the three planes.
-pub(crate) fn has_rooms(
-    x: usize,
-    y: usize,
-    luma: &[u8],
-    cb: &[u8],
-    cr: &[u8],
-    strides: Strides,
-    marks: Marks,
-) -> bool
-    requires { ⌜ (x < 4294967296) × (y < 4294967296) ⌝ }
-    ensures { λ r. ⌜ r ≡ rooms x y (length (now (luma .entry))) (length (now (cb .entry))) (length (now (cr .entry))) strides (marksOf marks) ⌝ }
+// The same of three planes of so many samples.
+pub(crate) fn has_rooms(spot: Spot, luma: usize, cb: usize, cr: usize) -> bool
+    requires { ⌜ (spot .x < 4294967296) × (spot .y < 4294967296) ⌝ }
+    ensures { λ r. ⌜ r ≡ rooms (spot .x) (spot .y) luma cb cr (spot .strides) (marksOf (spot .marks)) ⌝ }
 {
-    let luma = has_room(16, luma.len(), strides.luma, x, y, marks);
-    let cb = has_room(8, cb.len(), strides.cb, x, y, marks);
-    let cr = has_room(8, cr.len(), strides.cr, x, y, marks);
+    let luma = has_room(16, luma, spot.strides.luma, spot.x, spot.y, spot.marks);
+    let cb = has_room(8, cb, spot.strides.cb, spot.x, spot.y, spot.marks);
+    let cr = has_room(8, cr, spot.strides.cr, spot.x, spot.y, spot.marks);
     both(both(luma, cb), cr)
 }
 

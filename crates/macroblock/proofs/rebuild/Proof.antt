@@ -1,46 +1,63 @@
--- `macroblock::rebuild` meets its contract: only where what it prepares is not refused does it write. Assumes nothing.
-use mathlib.Core.Path.{_≡_, sym, _∙_}
+-- `macroblock::rebuild` meets its contract: without room it answers 2, else what the record's lists and modes answer, and where that is 0 what its numbers do. Assumes nothing.
+use mathlib.Core.Path.{_≡_, refl, sym, _∙_}
+use mathlib.Core.Bool.{true}
 use native.Mathlib.Omega.{arith}
+use borrow.Author.Tests.{not-true, not-false}
+use lib.ListN.{length}
 use Rattle.laws.proofs.Answers.{refused}
+use Rattle.maps.specs.Neighbours.{marksOf}
+use Rattle.macroblock.specs.declared.Record.{Record}
+use Rattle.macroblock.specs.Kinds.{recordOf}
+use Rattle.macroblock.specs.Rules.{rooms}
+use Rattle.macroblock.proofs.Early.{early-decide, numbers-decide}
 use borrow.Author.Needs.{needs}
 use Rattle.macroblock.proofs.rebuild.Statement.{statement}
 use Rattle.macroblock.proofs.rebuild.Tie as tie
 
-returns : tie.Need-returns
-returns c =
-    let p = c .before .before .before in
-    let z : p .prepare .result ≡ 0 → ⊥ = λ e. omega arith in
-    (p .prepare .ensures .0, (sym (refused _ _ _ z), (sym (refused _ _ _ z), sym (refused _ _ _ z))))
+-- the record that the call is given by its parts
+abbrev given : tie.Start → Record
+given u = let a = u .args in recordOf (a .kind) (a .modes .now) (a .chroma-mode) (a .numbers .now)
 
--- what is prepared where nothing is refused
-passed : (c : tie.Else1) → c .before .before .before .prepare .result ≡ 0
+-- the way back from where there is room, and what is known there
+abbrev start : tie.Else1 → tie.Start
+start c = c .before .before .before .before .before .before
+
+has : (c : tie.Else1) → let a = start c .args in
+    rooms (a .x) (a .y) (length (a .luma .now)) (length (a .cb .now)) (length (a .cr .now)) (a .strides) (marksOf (a .marks)) ≡ true
+has c = sym (c .before .has-rooms .ensures) ∙ not-false _ (c .if1 .left)
+
+-- the answer of the record's lists and modes is 0
+passed : (c : tie.Else2) → c .before .record-answer .result ≡ 0
 passed c = omega arith
 
-all-squares-requires : tie.Need-all-squares-requires
-all-squares-requires c κs =
-    let e = c .before .before .before .before .before in
-    let w = e .before .before .before .prepare .ensures .1 (passed e) in
-    (w .in-luma, (w .in-cb, (w .in-cr, w .quads)))
+returns : tie.Need-returns
+returns c = (rw (sym (c .before .has-rooms .ensures) ∙ not-true _ (c .if1 .taken)), (refl, (refl, refl)))
 
 returns-2 : tie.Need-returns-2
 returns-2 c =
-    let s = c .before .before .before .before .before .before in
-    let e = s .before .before .before .before .before .before in
-    let p = e .before .before .before in
-    let n = p .before .before .before .before .before .before .before .before .before .before .args .numbers .now in
-    let T = p .prepare .ensures .1 (passed e) .made in
-    let m = s .all-squares .ensures in
-    (sym (passed e) ∙ p .prepare .ensures .0, (m .0 n T, (m .1 .0 n T, m .1 .1 n T)))
+    let r = c .before in
+    let u = start (r .before) in
+    let z : r .record-answer .result ≡ 0 → ⊥ = λ e. omega arith in (
+      r .record-answer .ensures ∙ sym (early-decide (marksOf (u .args .marks)) (given u) _ (has (r .before)) (λ h. z (r .record-answer .ensures ∙ h))),
+      (sym (refused _ _ _ z), (sym (refused _ _ _ z), sym (refused _ _ _ z))),
+    )
 
--- the answers that the search finds, by name: all of them in one term take more memory
-slice-aggregate-prepare : tie.Need-slice-aggregate-prepare
-slice-aggregate-prepare c = search needs
+decode-requires : tie.Need-decode-requires
+decode-requires c κs = let e = c .before .before .before in (has (e .before .before), sym (e .before .record-answer .ensures) ∙ passed e)
 
-slice-aggregate-prepare-2 : tie.Need-slice-aggregate-prepare-2
-slice-aggregate-prepare-2 c = search needs
+returns-3 : tie.Need-returns-3
+returns-3 c =
+    let d = c .before .before .before .before .before .before in
+    let e = d .before .before .before .before in
+    let r = e .before in
+    let u = start (r .before) in
+    (d .decode .ensures .0 ∙ sym (numbers-decide (marksOf (u .args .marks)) (given u) _ (has (r .before)) (sym (r .record-answer .ensures) ∙ passed e)), d .decode .ensures .1)
 
-prepare-requires : tie.Need-prepare-requires
-prepare-requires c κs = search needs
+has-rooms-requires : tie.Need-has-rooms-requires
+has-rooms-requires c κs = search needs
+
+record-answer-requires : tie.Need-record-answer-requires
+record-answer-requires c κs = search needs
 
 same-length : tie.Need-same-length
 same-length c = search needs
@@ -51,36 +68,16 @@ same-length-2 c = search needs
 same-length-3 : tie.Need-same-length-3
 same-length-3 c = search needs
 
-slice-aggregate-all-squares : tie.Need-slice-aggregate-all-squares
-slice-aggregate-all-squares c = search needs
-
-slice-aggregate-all-squares-2 : tie.Need-slice-aggregate-all-squares-2
-slice-aggregate-all-squares-2 c = search needs
-
-same-length-4 : tie.Need-same-length-4
-same-length-4 c = search needs
-
-same-length-5 : tie.Need-same-length-5
-same-length-5 c = search needs
-
-same-length-6 : tie.Need-same-length-6
-same-length-6 c = search needs
-
 pub rebuild-spec : {M : Type 1} → statement M
-rebuild-spec =
-    tie.close
-    (tie.spec
-    slice-aggregate-prepare
-    slice-aggregate-prepare-2
-    prepare-requires
+rebuild-spec {M} =
+    tie.close {M = M}
+    (tie.spec {M = M}
+    has-rooms-requires
+    returns
+    record-answer-requires
+    returns-2
+    decode-requires
     same-length
     same-length-2
     same-length-3
-    returns
-    slice-aggregate-all-squares
-    slice-aggregate-all-squares-2
-    all-squares-requires
-    same-length-4
-    same-length-5
-    same-length-6
-    returns-2)
+    returns-3)

@@ -11,13 +11,12 @@ use Rattle.laws.specs.Range.{at}
 use Rattle.basics.specs.Clip.{Clip1}
 use Rattle.basics.specs.Marks.{permittedChroma, modeAnswer}
 use Rattle.basics.specs.Nnz.{blkIdx}
-use Rattle.maps.specs.Neighbours.{Side}
+use Rattle.maps.specs.Neighbours.{Side, marksOf}
 use Rattle.macroblock.specs.Cut.{scanX, scanY, sidesOf, squareSides}
 use Rattle.maps.specs.Neighbours.Side.{A, B, D}
-use Rattle.macroblock.specs.declared.Record.{Record}
-use Rattle.macroblock.specs.declared.Strides.{Strides}
 use Rattle.macroblock.specs.declared.cut.Place.{Place}
 use Rattle.macroblock.specs.declared.cut.Sides.{Sides}
+use Rattle.macroblock.specs.declared.cut.Spot.{Spot}
 use Rattle.macroblock.specs.Kinds.{residual4x4, residual8x8, cutFor}
 use Rattle.macroblock.specs.Rules.{used, lastMode, permittedFor}
 use Rattle.macroblock.specs.Square.{placeAt}
@@ -80,17 +79,21 @@ pub record Coded (residuals : List ℤ) (coded : List ℕ) : Type 0 where
   pub six : length coded ≡ 6
   pub blank : (q i : ℕ) → q < 6 → i < 64 → getD coded q 0 ≡ 0 → at residuals (64 * q + i) ≡ pos 0
 
--- a luma square stands in its plane, its modes are fine, and its lists have their lengths
-pub record LumaReady (kind : ℕ) (p : Place) (n : ℕ) (marks : Side → Bool) (modes : List ℕ) (residuals : List ℤ) : Type 0 where
-  pub stands : StandsIn 16 p n (squareSides marks)
-  pub fine : (k : ℕ) → k < used kind → modeFine kind modes marks k ≡ 0
+-- where a macroblock's luma square stands
+abbrev pub lumaPlace : Spot → Place
+lumaPlace spot = placeAt (spot .strides .luma) (spot .y) (spot .x)
+
+-- it lies in its plane, its modes are fine, and its lists have their lengths
+pub record LumaReady (kind : ℕ) (spot : Spot) (n : ℕ) (modes : List ℕ) (residuals : List ℤ) : Type 0 where
+  pub stands : StandsIn 16 (lumaPlace spot) n (squareSides (marksOf (spot .marks)))
+  pub fine : (k : ℕ) → k < used kind → modeFine kind modes (marksOf (spot .marks)) k ≡ 0
   pub sixteen : length modes ≡ 16
   pub all : length residuals ≡ 384
 
 -- the same of a chroma square, whose residuals are those of the blocks from `base` on
-pub record ChromaReady (mode base : ℕ) (p : Place) (n : ℕ) (marks : Side → Bool) (residuals : List ℤ) : Type 0 where
-  pub stands : StandsIn 8 p n (squareSides marks)
-  pub fine : modeAnswer 3 (permittedChroma (marks B) (marks A) (marks D)) mode ≡ 0
+pub record ChromaReady (mode base stride : ℕ) (spot : Spot) (n : ℕ) (residuals : List ℤ) : Type 0 where
+  pub stands : StandsIn 8 (placeAt stride (spot .y) (spot .x)) n (squareSides (marksOf (spot .marks)))
+  pub fine : let marks = marksOf (spot .marks) in modeAnswer 3 (permittedChroma (marks B) (marks A) (marks D)) mode ≡ 0
   pub all : length residuals ≡ 384
   pub four : base + 4 ≤ 24
 
@@ -118,14 +121,6 @@ abbrev pub firstFor : ℕ → ℕ
 firstFor zero = 0
 firstFor (suc zero) = 16
 firstFor (suc (suc _)) = 0
-
--- what a call that is not refused has before it writes: macroblock (x, y) in three planes of so many samples
-pub record Prepared (x y luma cb cr : ℕ) (strides : Strides) (marks : Side → Bool) (r : Record) (residuals : List ℤ) (coded : List ℕ) : Type 0 where
-  pub in-luma : LumaReady (r .kind) (placeAt (strides .luma) y x) luma marks (r .modes) residuals
-  pub in-cb : ChromaReady (r .«chroma_mode») 16 (placeAt (strides .cb) y x) cb marks residuals
-  pub in-cr : ChromaReady (r .«chroma_mode») 20 (placeAt (strides .cr) y x) cr marks residuals
-  pub made : Transformed (firstFor (r .kind)) (r .numbers) residuals
-  pub quads : Coded residuals coded
 
 -- the residual of block b in column x and row y, and that of a larger block whose pieces are the blocks from b on
 abbrev pub inPiece : List ℤ → ℕ → ℕ → ℕ → ℤ

@@ -11,8 +11,8 @@ record Here (m row column : ℕ) : Type 0 where
   pub rows : row * m ≤ row * 4
   pub columns : column * m ≤ column * 4
 
-here : (u : tie.Start) → Here (u .args .m) (u .args .place .row) (u .args .place .column)
-here u = let l = u .pre .0 .few in record { few = l; rows = mul-le-mul-left (u .args .place .row) l; columns = mul-le-mul-left (u .args .place .column) l }
+here : (u : tie.Start) → Here (u .args .m) (u .args .spot .y) (u .args .spot .x)
+here u = let l = u .pre .0 .few in record { few = l; rows = mul-le-mul-left (u .args .spot .y) l; columns = mul-le-mul-left (u .args .spot .x) l }
 
 mul-row : tie.Need-mul-row
 mul-row c = let h = here (c .before) in omega (arith, c .before .pre .1 .rows)

@@ -36,16 +36,14 @@ returns c =
     let l = first-few kind in
     (p₁ .luma-square .ensures, (λ n T. p₂ .chroma-square .ensures k n (omega arith) T, λ n T. p₃ .chroma-square2 .ensures k n (omega arith) T))
 
+same-length : tie.Need-same-length
+same-length c = search needs
+
+same-length-2 : tie.Need-same-length-2
+same-length-2 c = search needs
+
+same-length-3 : tie.Need-same-length-3
+same-length-3 c = search needs
+
 pub all-squares-spec : {M : Type 1} → statement M
-all-squares-spec =
-    tie.close
-    (tie.spec
-    luma-square-requires
-    shared-slice-read-in-cb
-    chroma-square-requires
-    shared-slice-read-in-cr
-    chroma-square-requires-2
-    (λ c. search needs)
-    (λ c. search needs)
-    (λ c. search needs)
-    returns)
+all-squares-spec = tie.close (tie.spec luma-square-requires shared-slice-read-in-cb chroma-square-requires shared-slice-read-in-cr chroma-square-requires-2 same-length same-length-2 same-length-3 returns)

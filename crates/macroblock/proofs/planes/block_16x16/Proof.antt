@@ -7,7 +7,7 @@ use Rattle.basics.specs.Marks.{permitted16x16, modeAnswer}
 use Rattle.maps.specs.Neighbours.{marksOf}
 use Rattle.macroblock.specs.Cut.{whole}
 use Rattle.macroblock.specs.Kinds.{predFor, residualL}
-use Rattle.macroblock.specs.inner.Blocks.{StandsIn, inPieces}
+use Rattle.macroblock.specs.inner.Blocks.{StandsIn, inPieces, lumaPlace}
 use Rattle.macroblock.proofs.Drawn.{part-drawn, whole-sides, whole-place}
 use Rattle.macroblock.proofs.Scan.{scan-4}
 use Rattle.macroblock.proofs.Sums.{pieces-transformed}
@@ -23,8 +23,8 @@ predict-16x16-requires c κs =
     let e = sym (s .square-sides .ensures) in (
       search needs,
       (
-        subst (StandsIn 16 (a .place) (length (a .plane .now))) e (u .pre .0 .stands),
-        subst (λ s. modeAnswer 3 (permitted16x16 (s .above) (s .left) (s .corner)) (getD (a .modes .now) 0 0) ≡ 0) (sym (whole-sides (marksOf (a .marks))) ∙ e) (u .pre .0 .fine 0 (omega arith)),
+        subst (StandsIn 16 (lumaPlace (a .spot)) (length (a .plane .now))) e (u .pre .0 .stands),
+        subst (λ s. modeAnswer 3 (permitted16x16 (s .above) (s .left) (s .corner)) (getD (a .modes .now) 0 0) ≡ 0) (sym (whole-sides (marksOf (a .spot .marks))) ∙ e) (u .pre .0 .fine 0 (omega arith)),
       ),
     )
 
@@ -39,7 +39,7 @@ returns c numbers T =
     let d = p .before .before .before .before in
     let s = d .before .before .before .before in
     let a = s .before .before .before .before .args in
-    part-drawn (whole 16) (λ k. predFor 2 (getD (a .modes .now) k 0)) (residualL 2 numbers) (a .place) (marksOf (a .marks)) 0 (omega arith) (whole-place (a .place)) (s .square-sides .ensures ∙ whole-sides (marksOf (a .marks)))
+    part-drawn (whole 16) (λ k. predFor 2 (getD (a .modes .now) k 0)) (residualL 2 numbers) (lumaPlace (a .spot)) (marksOf (a .spot .marks)) 0 (omega arith) (whole-place (lumaPlace (a .spot))) (s .square-sides .ensures ∙ whole-sides (marksOf (a .spot .marks)))
     (λ x y. 0 + y * 16 + x) (inPieces (a .residuals .now) 0) (a .plane .now) (d .predict-16x16 .ensures) (λ x y. omega arith) (pieces-transformed 4 0 scan-4 (omega arith) (omega arith) T) (p .put-16x16 .ensures)
 
 pub block-16x16-spec : {M : Type 1} → statement M

@@ -8,7 +8,7 @@ use Rattle.basics.specs.Marks.{permittedNxN, modeAnswer}
 use Rattle.maps.specs.Neighbours.{marksOf}
 use Rattle.macroblock.specs.Cut.{four}
 use Rattle.macroblock.specs.Kinds.{predFor, residualL}
-use Rattle.macroblock.specs.inner.Blocks.{StandsIn, inPiece}
+use Rattle.macroblock.specs.inner.Blocks.{StandsIn, inPiece, lumaPlace}
 use Rattle.macroblock.proofs.Drawn.{part-drawn}
 use Rattle.macroblock.proofs.Fitting.{place-low}
 use Rattle.macroblock.proofs.Scan.{scan-4}
@@ -20,7 +20,7 @@ use Rattle.macroblock.proofs.planes.block_4x4.Tie as tie
 block : (c : tie.After-sides-of) → StandsIn 4 (c .before .place-of .result) (length (c .before .before .before .before .args .plane .now)) (c .sides-of .result)
 block c =
     let u = c .before .before .before .before in
-    stands-at 4 4 (u .args .k) (marksOf (u .args .marks)) scan-4 (omega arith) (u .pre .1) (u .pre .0 .stands) (c .before .place-of .ensures) (c .sides-of .ensures)
+    stands-at 4 4 (u .args .k) (marksOf (u .args .spot .marks)) scan-4 (omega arith) (u .pre .1) (u .pre .0 .stands) (c .before .place-of .ensures) (c .sides-of .ensures)
 
 place-of-requires : tie.Need-place-of-requires
 place-of-requires c κs = let u = c .before .before in (record { scan = scan-4; few = omega arith; one = u .pre .1 }, place-low (u .pre .0 .stands .block) (omega arith))
@@ -51,7 +51,7 @@ returns c numbers T =
     let e = d .before .before .before .before in
     let u = e .before .before .before .before in
     let a = u .args in
-    part-drawn four (λ k. predFor 0 (getD (a .modes .now) k 0)) (residualL 0 numbers) (a .place) (marksOf (a .marks)) (a .k) (omega arith) (e .before .place-of .ensures) (e .sides-of .ensures)
+    part-drawn four (λ k. predFor 0 (getD (a .modes .now) k 0)) (residualL 0 numbers) (lumaPlace (a .spot)) (marksOf (a .spot .marks)) (a .k) (omega arith) (e .before .place-of .ensures) (e .sides-of .ensures)
     (λ x y. 0 + y * 4 + x) (inPiece (a .residuals .now) (a .k)) (a .plane .now) (d .predict-4x4 .ensures) (λ x y. omega arith)
     (λ x y. T .after (a .k) x y (omega arith) (omega (arith, u .pre .1))) (p .put-4x4 .ensures)
 

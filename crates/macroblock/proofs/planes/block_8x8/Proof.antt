@@ -10,7 +10,7 @@ use Rattle.basics.specs.Marks.{permittedNxN, modeAnswer}
 use Rattle.maps.specs.Neighbours.{marksOf}
 use Rattle.macroblock.specs.Cut.{eight}
 use Rattle.macroblock.specs.Kinds.{predFor, residualL}
-use Rattle.macroblock.specs.inner.Blocks.{StandsIn}
+use Rattle.macroblock.specs.inner.Blocks.{StandsIn, lumaPlace}
 use Rattle.macroblock.proofs.Drawn.{part-drawn}
 use Rattle.macroblock.proofs.Fitting.{place-low}
 use Rattle.macroblock.proofs.Scan.{scan-2}
@@ -22,7 +22,7 @@ use Rattle.macroblock.proofs.planes.block_8x8.Tie as tie
 block : (c : tie.After-sides-of) → StandsIn 8 (c .before .place-of .result) (length (c .before .before .before .before .before .args .plane .now)) (c .sides-of .result)
 block c =
     let u = c .before .before .before .before .before in
-    stands-at 8 2 (u .args .k) (marksOf (u .args .marks)) scan-2 (omega arith) (u .pre .0 .1) (u .pre .0 .0 .stands) (c .before .place-of .ensures) (c .sides-of .ensures)
+    stands-at 8 2 (u .args .k) (marksOf (u .args .spot .marks)) scan-2 (omega arith) (u .pre .0 .1) (u .pre .0 .0 .stands) (c .before .place-of .ensures) (c .sides-of .ensures)
 
 place-of-requires : tie.Need-place-of-requires
 place-of-requires c κs = let u = c .before .before .before in (record { scan = scan-2; few = omega arith; one = u .pre .0 .1 }, place-low (u .pre .0 .0 .stands .block) (omega arith))
@@ -59,7 +59,7 @@ returns c numbers T =
     let e = d .before .before .before .before in
     let u = e .before .before .before .before .before in
     let a = u .args in
-    part-drawn eight (λ k. predFor 1 (getD (a .modes .now) k 0)) (residualL 1 numbers) (a .place) (marksOf (a .marks)) (a .k) (omega arith) (e .before .place-of .ensures) (e .sides-of .ensures)
+    part-drawn eight (λ k. predFor 1 (getD (a .modes .now) k 0)) (residualL 1 numbers) (lumaPlace (a .spot)) (marksOf (a .spot .marks)) (a .k) (omega arith) (e .before .place-of .ensures) (e .sides-of .ensures)
     (λ x y. 0 + y * 8 + x) (λ x y. at (a .residuals .now) (64 * a .k + (8 * y + x))) (a .plane .now) (d .predict-8x8 .ensures) (λ x y. omega arith)
     (λ x y hx hy. T .before (a .k) x y (omega (arith, u .pre .0 .1)) hx hy) (p .put-8x8 .ensures)
 

@@ -26,7 +26,7 @@ predict-chroma-requires c κs =
     let e = sym (s .square-sides .ensures) in (
       search needs,
       (
-        subst (StandsIn 8 (placeAt (a .stride) (a .y) (a .x)) (length (a .plane .now))) e (u .pre .0 .stands),
+        subst (StandsIn 8 (placeAt (a .stride) (a .spot .y) (a .spot .x)) (length (a .plane .now))) e (u .pre .0 .stands),
         subst (λ s. modeAnswer 3 (permittedChroma (s .above) (s .left) (s .corner)) (a .mode) ≡ 0) e (u .pre .0 .fine),
       ),
     )
@@ -44,8 +44,8 @@ returns c first numbers low T =
     let s = d .before .before .before in
     let u = s .before .before in
     let a = u .args in
-    let at = placeAt (a .stride) (a .y) (a .x) in
-    part-drawn (whole 8) (λ k s. predC (a .mode) (s .above) (s .left)) (λ k. residualIn numbers (a .base)) at (marksOf (a .marks)) 0 (omega arith) (whole-place at) (s .square-sides .ensures ∙ whole-sides (marksOf (a .marks)))
+    let at = placeAt (a .stride) (a .spot .y) (a .spot .x) in
+    part-drawn (whole 8) (λ k s. predC (a .mode) (s .above) (s .left)) (λ k. residualIn numbers (a .base)) at (marksOf (a .spot .marks)) 0 (omega arith) (whole-place at) (s .square-sides .ensures ∙ whole-sides (marksOf (a .spot .marks)))
     (λ x y. 0 + y * 8 + x) (inPieces (a .residuals .now) (a .base)) (a .plane .now) (d .predict-chroma .ensures) (λ x y. omega arith) (pieces-transformed 2 (a .base) scan-2 low (omega (arith, u .pre .0 .four)) T) (p .put-quad .ensures)
 
 pub chroma-square-spec : {M : Type 1} → statement M

@@ -17,13 +17,13 @@ use Rattle.macroblock.proofs.planes.luma_block.Tie as tie
 
 -- what block k of a kind asks for, what its numbers must be, and what it leaves
 abbrev asks : tie.Start → ℕ → Type 0
-asks u n = let a = u .args in LumaReady n (a .place) (length (a .plane .now)) (marksOf (a .marks)) (a .modes .now) (a .residuals .now) × (a .k < used n)
+asks u n = let a = u .args in LumaReady n (a .spot) (length (a .plane .now)) (a .modes .now) (a .residuals .now) × (a .k < used n)
 
 abbrev ready : tie.Start → List ℤ → ℕ → Type 0
 ready u numbers n = Transformed (firstFor n) numbers (u .args .residuals .now)
 
 rebuilt : tie.Start → List ℤ → ℕ → ℕ → List ℕ
-rebuilt u numbers n k = let a = u .args in part (cutFor n) (lumaRule n (a .modes .now) numbers) (a .place .stride) (a .place .column) (a .place .row) (marksOf (a .marks)) k (a .plane .now)
+rebuilt u numbers n k = let a = u .args in part (cutFor n) (lumaRule n (a .modes .now) numbers) (a .spot .strides .luma) (a .spot .x) (a .spot .y) (marksOf (a .spot .marks)) k (a .plane .now)
 
 block-4x4-requires : tie.Need-block-4x4-requires
 block-4x4-requires c κs = let u = c .before .before .before .before .before in let e : u .args .kind ≡ 0 = omega arith in subst (asks u) e (u .pre .0)

@@ -10,7 +10,7 @@ use Rattle.laws.proofs.Steps.{steps-none, steps-more}
 use Rattle.maps.specs.Neighbours.{marksOf}
 use Rattle.macroblock.specs.Cut.{blocks}
 use Rattle.macroblock.specs.Kinds.{cutFor, lumaRule}
-use Rattle.macroblock.specs.Square.{placeAt, part}
+use Rattle.macroblock.specs.Square.{part}
 use Rattle.macroblock.specs.inner.Blocks.{LumaReady, Transformed, firstFor}
 use Rattle.macroblock.proofs.ByKind.{used-is}
 use borrow.Author.Needs.{needs}
@@ -18,12 +18,12 @@ use Rattle.macroblock.proofs.planes.luma_square.Statement.{statement}
 use Rattle.macroblock.proofs.planes.luma_square.Tie as tie
 
 abbrev Inv-loop : tie.InvT-loop
-Inv-loop plane₀ stride x y marks kind modes residuals coded place n k₀ plane k =
+Inv-loop plane₀ spot kind modes residuals coded n k₀ plane k =
     (k ≤ n) × (length plane ≡ length plane₀)
-    × ((numbers : List ℤ) → Transformed (firstFor kind) numbers residuals → plane ≡ upTo (part (cutFor kind) (lumaRule kind modes numbers) stride x y (marksOf marks)) k plane₀)
+    × ((numbers : List ℤ) → Transformed (firstFor kind) numbers residuals → plane ≡ upTo (part (cutFor kind) (lumaRule kind modes numbers) (spot .strides .luma) (spot .x) (spot .y) (marksOf (spot .marks))) k plane₀)
 
 abbrev μ-loop : tie.MeasureT-loop
-μ-loop plane₀ stride x y marks kind modes residuals coded place n k₀ plane k = n - k
+μ-loop plane₀ spot kind modes residuals coded n k₀ plane k = n - k
 
 loop-holds : tie.Need-loop-holds Inv-loop μ-loop
 loop-holds c = (omega arith, refl, λ numbers T. steps-none _ _)
@@ -34,7 +34,7 @@ luma-block-requires c κs =
     let n = b .before in
     let u = n .before .before .before .before in
     let a = u .args in
-    ((subst (λ l. LumaReady (a .kind) (placeAt (a .stride) (a .y) (a .x)) l (marksOf (a .marks)) (a .modes .now) (a .residuals .now)) (sym (b .loop .inv .1)) (u .pre .0), omega (arith, n .used-modes .ensures)), u .pre .1)
+    ((subst (λ l. LumaReady (a .kind) (a .spot) l (a .modes .now) (a .residuals .now)) (sym (b .loop .inv .1)) (u .pre .0), omega (arith, n .used-modes .ensures)), u .pre .1)
 
 loop-again : tie.Need-loop-again Inv-loop μ-loop
 loop-again c =
@@ -56,7 +56,7 @@ returns c numbers T =
     let a = n .before .before .before .before .args in
     let e : b .loop .k ≡ blocks (cutFor (a .kind)) = omega (arith, n .used-modes .ensures, used-is (a .kind)) in
     b .loop .inv .2 numbers T
-    ∙ ap (λ n. upTo (part (cutFor (a .kind)) (lumaRule (a .kind) (a .modes .now) numbers) (a .stride) (a .x) (a .y) (marksOf (a .marks))) n (a .plane .now)) e
+    ∙ ap (λ n. upTo (part (cutFor (a .kind)) (lumaRule (a .kind) (a .modes .now) numbers) (a .spot .strides .luma) (a .spot .x) (a .spot .y) (marksOf (a .spot .marks))) n (a .plane .now)) e
 
 pub luma-square-spec : {M : Type 1} → statement M
 luma-square-spec =

@@ -40,13 +40,65 @@ loop-again c =
     one-more (i .before .loop .inv) (at (midOf (4 * y) (length res - 4 * y) res)) (u .pre .0) (omega arith) (here i) refl
     (λ x h. part-at (pos 0) res (4 * y) (length res - 4 * y) x (omega arith)) (c .before .before .add-four .ensures)
 
+loop-holds : tie.Need-loop-holds Inv-loop μ-loop
+loop-holds c = none-yet
+
+mul-add-four : tie.Need-mul-add-four Inv-loop μ-loop
+mul-add-four c = search needs
+
+mul-add-four-2 : tie.Need-mul-add-four-2 Inv-loop μ-loop
+mul-add-four-2 c = search needs
+
+sub-add-four : tie.Need-sub-add-four Inv-loop μ-loop
+sub-add-four c = search needs
+
+part-add-four-start : tie.Need-part-add-four-start Inv-loop μ-loop
+part-add-four-start c = search needs
+
+part-add-four-end : tie.Need-part-add-four-end Inv-loop μ-loop
+part-add-four-end c = search needs
+
+mul-add-four-3 : tie.Need-mul-add-four-3 Inv-loop μ-loop
+mul-add-four-3 c = let w = here (c .before) in omega arith
+
+add-add-four : tie.Need-add-add-four Inv-loop μ-loop
+add-add-four c = let w = here (c .before) in omega arith
+
+sub-add-four-2 : tie.Need-sub-add-four-2 Inv-loop μ-loop
+sub-add-four-2 c = let w = here (c .before) in omega arith
+
+part-add-four-start-2 : tie.Need-part-add-four-start-2 Inv-loop μ-loop
+part-add-four-start-2 c = let w = here (c .before) in omega arith
+
+part-add-four-end-2 : tie.Need-part-add-four-end-2 Inv-loop μ-loop
+part-add-four-end-2 c = let w = here (c .before) in omega arith
+
+mul-add-four-4 : tie.Need-mul-add-four-4 Inv-loop μ-loop
+mul-add-four-4 c = let w = here (c .before .before) in omega arith
+
+add-add-four-2 : tie.Need-add-add-four-2 Inv-loop μ-loop
+add-add-four-2 c = let w = here (c .before .before) in omega arith
+
+sub-add-four-3 : tie.Need-sub-add-four-3 Inv-loop μ-loop
+sub-add-four-3 c = let w = here (c .before .before) in omega arith
+
+part-add-four-start-3 : tie.Need-part-add-four-start-3 Inv-loop μ-loop
+part-add-four-start-3 c = let w = here (c .before .before) in omega arith
+
+part-add-four-end-3 : tie.Need-part-add-four-end-3 Inv-loop μ-loop
+part-add-four-end-3 c = let w = here (c .before .before) in omega arith
+
+add-y : tie.Need-add-y Inv-loop μ-loop
+add-y c = search needs
+
+loop-less : tie.Need-loop-less Inv-loop μ-loop
+loop-less c = search needs
+
+same-length : tie.Need-same-length Inv-loop μ-loop
+same-length c = same-long (c .before .loop .inv)
+
+returns : tie.Need-returns Inv-loop μ-loop
+returns c = all-put (c .before .loop .inv) (omega arith)
+
 pub add-4x4-spec : {M : Type 1} → statement M
-add-4x4-spec =
-    tie.close
-    (tie.spec Inv-loop μ-loop (λ c. none-yet) (λ c. search needs) (λ c. search needs) (λ c. search needs) (λ c. search needs) (λ c. search needs)
-    (λ c. let w = here (c .before) in omega arith) (λ c. let w = here (c .before) in omega arith) (λ c. let w = here (c .before) in omega arith)
-    (λ c. let w = here (c .before) in omega arith) (λ c. let w = here (c .before) in omega arith)
-    (λ c. let w = here (c .before .before) in omega arith) (λ c. let w = here (c .before .before) in omega arith)
-    (λ c. let w = here (c .before .before) in omega arith) (λ c. let w = here (c .before .before) in omega arith)
-    (λ c. let w = here (c .before .before) in omega arith) add-four-requires (λ c. search needs) (λ c. search needs) loop-again
-    (λ c. same-long (c .before .loop .inv)) (λ c. all-put (c .before .loop .inv) (omega arith)))
+add-4x4-spec = tie.close (tie.spec Inv-loop μ-loop loop-holds mul-add-four mul-add-four-2 sub-add-four part-add-four-start part-add-four-end mul-add-four-3 add-add-four sub-add-four-2 part-add-four-start-2 part-add-four-end-2 mul-add-four-4 add-add-four-2 sub-add-four-3 part-add-four-start-3 part-add-four-end-3 add-four-requires add-y loop-less loop-again same-length returns)

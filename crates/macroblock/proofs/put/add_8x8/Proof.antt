@@ -41,11 +41,62 @@ loop-again c =
     one-more (i .before .loop .inv) {a = y * 8} (at (midOf (8 * y) (length res - 8 * y) res)) (u .pre .0) (omega arith) (here i) (omega arith)
     (λ x h. part-at (pos 0) res (8 * y) (length res - 8 * y) x (omega arith)) (c .before .before .add-eight .ensures)
 
+loop-holds : tie.Need-loop-holds Inv-loop μ-loop
+loop-holds c = none-yet
+
+mul-add-eight : tie.Need-mul-add-eight Inv-loop μ-loop
+mul-add-eight c = search needs
+
+mul-add-eight-2 : tie.Need-mul-add-eight-2 Inv-loop μ-loop
+mul-add-eight-2 c = search needs
+
+sub-add-eight : tie.Need-sub-add-eight Inv-loop μ-loop
+sub-add-eight c = search needs
+
+part-add-eight-start : tie.Need-part-add-eight-start Inv-loop μ-loop
+part-add-eight-start c = search needs
+
+part-add-eight-end : tie.Need-part-add-eight-end Inv-loop μ-loop
+part-add-eight-end c = search needs
+
+mul-add-eight-3 : tie.Need-mul-add-eight-3 Inv-loop μ-loop
+mul-add-eight-3 c = search needs
+
+sub-add-eight-2 : tie.Need-sub-add-eight-2 Inv-loop μ-loop
+sub-add-eight-2 c = search needs
+
+part-add-eight-start-2 : tie.Need-part-add-eight-start-2 Inv-loop μ-loop
+part-add-eight-start-2 c = search needs
+
+part-add-eight-end-2 : tie.Need-part-add-eight-end-2 Inv-loop μ-loop
+part-add-eight-end-2 c = search needs
+
+mul-add-eight-4 : tie.Need-mul-add-eight-4 Inv-loop μ-loop
+mul-add-eight-4 c = let w = here (c .before .before) in omega arith
+
+add-add-eight : tie.Need-add-add-eight Inv-loop μ-loop
+add-add-eight c = let w = here (c .before .before) in omega arith
+
+sub-add-eight-3 : tie.Need-sub-add-eight-3 Inv-loop μ-loop
+sub-add-eight-3 c = let w = here (c .before .before) in omega arith
+
+part-add-eight-start-3 : tie.Need-part-add-eight-start-3 Inv-loop μ-loop
+part-add-eight-start-3 c = let w = here (c .before .before) in omega arith
+
+part-add-eight-end-3 : tie.Need-part-add-eight-end-3 Inv-loop μ-loop
+part-add-eight-end-3 c = let w = here (c .before .before) in omega arith
+
+add-y : tie.Need-add-y Inv-loop μ-loop
+add-y c = search needs
+
+loop-less : tie.Need-loop-less Inv-loop μ-loop
+loop-less c = search needs
+
+same-length : tie.Need-same-length Inv-loop μ-loop
+same-length c = same-long (c .before .loop .inv)
+
+returns : tie.Need-returns Inv-loop μ-loop
+returns c = all-put (c .before .loop .inv) (omega arith)
+
 pub add-8x8-spec : {M : Type 1} → statement M
-add-8x8-spec =
-    tie.close
-    (tie.spec Inv-loop μ-loop (λ c. none-yet) (λ c. search needs) (λ c. search needs) (λ c. search needs) (λ c. search needs) (λ c. search needs)
-    (λ c. search needs) (λ c. search needs) (λ c. search needs) (λ c. search needs) (λ c. let w = here (c .before .before) in omega arith)
-    (λ c. let w = here (c .before .before) in omega arith) (λ c. let w = here (c .before .before) in omega arith)
-    (λ c. let w = here (c .before .before) in omega arith) (λ c. let w = here (c .before .before) in omega arith) add-eight-requires
-    (λ c. search needs) (λ c. search needs) loop-again (λ c. same-long (c .before .loop .inv)) (λ c. all-put (c .before .loop .inv) (omega arith)))
+add-8x8-spec = tie.close (tie.spec Inv-loop μ-loop loop-holds mul-add-eight mul-add-eight-2 sub-add-eight part-add-eight-start part-add-eight-end mul-add-eight-3 sub-add-eight-2 part-add-eight-start-2 part-add-eight-end-2 mul-add-eight-4 add-add-eight sub-add-eight-3 part-add-eight-start-3 part-add-eight-end-3 add-eight-requires add-y loop-less loop-again same-length returns)

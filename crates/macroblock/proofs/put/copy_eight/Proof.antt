@@ -27,10 +27,56 @@ returns c =
     (front-next 1 2 f l (omega arith) (omega arith)
     (front-next 0 1 f l (omega arith) (omega arith) (front-none f l) (same 0)) (same 1)) (same 2)) (same 3)) (same 4)) (same 5)) (same 6)) (same 7)
 
+shared-slice-read-a : tie.Need-shared-slice-read-a
+shared-slice-read-a c = search needs
+
+shared-slice-read-b : tie.Need-shared-slice-read-b
+shared-slice-read-b c = search needs
+
+shared-slice-read-c : tie.Need-shared-slice-read-c
+shared-slice-read-c c = search needs
+
+shared-slice-read-d : tie.Need-shared-slice-read-d
+shared-slice-read-d c = search needs
+
+shared-slice-read-e : tie.Need-shared-slice-read-e
+shared-slice-read-e c = search needs
+
+shared-slice-read-f : tie.Need-shared-slice-read-f
+shared-slice-read-f c = search needs
+
+shared-slice-read-g : tie.Need-shared-slice-read-g
+shared-slice-read-g c = search needs
+
+shared-slice-read-h : tie.Need-shared-slice-read-h
+shared-slice-read-h c = search needs
+
+slice-write-row : tie.Need-slice-write-row
+slice-write-row c = search needs
+
+slice-write-row-2 : tie.Need-slice-write-row-2
+slice-write-row-2 c = simp length-set (omega arith)
+
+slice-write-row-3 : tie.Need-slice-write-row-3
+slice-write-row-3 c = simp length-set (omega arith)
+
+slice-write-row-4 : tie.Need-slice-write-row-4
+slice-write-row-4 c = simp length-set (omega arith)
+
+slice-write-row-5 : tie.Need-slice-write-row-5
+slice-write-row-5 c = simp length-set (omega arith)
+
+slice-write-row-6 : tie.Need-slice-write-row-6
+slice-write-row-6 c = simp length-set (omega arith)
+
+slice-write-row-7 : tie.Need-slice-write-row-7
+slice-write-row-7 c = simp length-set (omega arith)
+
+slice-write-row-8 : tie.Need-slice-write-row-8
+slice-write-row-8 c = simp length-set (omega arith)
+
+same-length : tie.Need-same-length
+same-length c = simp length-set
+
 pub copy-eight-spec : {M : Type 1} → statement M
-copy-eight-spec =
-    tie.close
-    (tie.spec (λ c. search needs) (λ c. search needs) (λ c. search needs) (λ c. search needs) (λ c. search needs) (λ c. search needs) (λ c. search needs)
-    (λ c. search needs) (λ c. search needs) (λ c. simp length-set (omega arith)) (λ c. simp length-set (omega arith)) (λ c. simp length-set (omega arith))
-    (λ c. simp length-set (omega arith)) (λ c. simp length-set (omega arith)) (λ c. simp length-set (omega arith)) (λ c. simp length-set (omega arith))
-    (λ c. simp length-set) returns)
+copy-eight-spec = tie.close (tie.spec shared-slice-read-a shared-slice-read-b shared-slice-read-c shared-slice-read-d shared-slice-read-e shared-slice-read-f shared-slice-read-g shared-slice-read-h slice-write-row slice-write-row-2 slice-write-row-3 slice-write-row-4 slice-write-row-5 slice-write-row-6 slice-write-row-7 slice-write-row-8 same-length returns)

@@ -83,15 +83,65 @@ returns-2 c =
     all-put (c .before .loop .inv) (sumOver (a .pred .now) (a .p-off) (a .p-stride) (inPieces res (a .base))) (omega arith) (omega arith) (u .pre .0 .0)
     (λ x y hx hy. ap (λ n. Clip1 (pos (getD (a .pred .now) n 0) +ℤ inPieces res (a .base) x y)) (quarter-place (a .p-off) (a .p-stride) x y))
 
+mul-off-2 : tie.Need-mul-off-2 Inv-loop μ-loop
+mul-off-2 c = search needs
+
+mul-off-3 : tie.Need-mul-off-3 Inv-loop μ-loop
+mul-off-3 c = search needs
+
+add-off : tie.Need-add-off Inv-loop μ-loop
+add-off c = search needs
+
+same-length : tie.Need-same-length Inv-loop μ-loop
+same-length c = search needs
+
+loop-holds : tie.Need-loop-holds Inv-loop μ-loop
+loop-holds c = none-yet
+
+scan-x-requires : tie.Need-scan-x-requires Inv-loop μ-loop
+scan-x-requires c κs = omega arith
+
+scan-y-requires : tie.Need-scan-y-requires Inv-loop μ-loop
+scan-y-requires c κs = omega arith
+
+mul-put-piece : tie.Need-mul-put-piece Inv-loop μ-loop
+mul-put-piece c = let h = here (c .before) in omega arith
+
+add-put-piece : tie.Need-add-put-piece Inv-loop μ-loop
+add-put-piece c = let h = here (c .before) in omega arith
+
+mul-put-piece-2 : tie.Need-mul-put-piece-2 Inv-loop μ-loop
+mul-put-piece-2 c = let h = here (c .before .before) in omega (arith, h .block .wide, h .block .short)
+
+add-put-piece-2 : tie.Need-add-put-piece-2 Inv-loop μ-loop
+add-put-piece-2 c = let h = here (c .before .before) in omega (arith, h .block .wide, h .block .short)
+
+mul-put-piece-3 : tie.Need-mul-put-piece-3 Inv-loop μ-loop
+mul-put-piece-3 c = let h = here (c .before .before .before) in omega arith
+
+mul-put-piece-4 : tie.Need-mul-put-piece-4 Inv-loop μ-loop
+mul-put-piece-4 c = let r = from (c .before .before .before) in omega arith
+
+add-put-piece-3 : tie.Need-add-put-piece-3 Inv-loop μ-loop
+add-put-piece-3 c = let r = from (c .before .before .before) in omega (arith, r .room .inside)
+
+mul-put-piece-5 : tie.Need-mul-put-piece-5 Inv-loop μ-loop
+mul-put-piece-5 c = let h = here (c .before .before .before) in omega arith
+
+add-put-piece-4 : tie.Need-add-put-piece-4 Inv-loop μ-loop
+add-put-piece-4 c = let r = from (c .before .before .before) in omega (arith, r .room .inside)
+
+add-put-piece-5 : tie.Need-add-put-piece-5 Inv-loop μ-loop
+add-put-piece-5 c = search needs
+
+add-k : tie.Need-add-k Inv-loop μ-loop
+add-k c = search needs
+
+loop-less : tie.Need-loop-less Inv-loop μ-loop
+loop-less c = search needs
+
+same-length-2 : tie.Need-same-length-2 Inv-loop μ-loop
+same-length-2 c = same-long (c .before .loop .inv)
+
 pub put-quad-spec : {M : Type 1} → statement M
-put-quad-spec =
-    tie.close
-    (tie.spec Inv-loop μ-loop mul-off (λ c. search needs) (λ c. search needs) (λ c. search needs) copy-8x8-requires (λ c. search needs) returns
-    (λ c. none-yet) (λ c κs. omega arith) (λ c κs. omega arith)
-    (λ c. let h = here (c .before) in omega arith) (λ c. let h = here (c .before) in omega arith)
-    (λ c. let h = here (c .before .before) in omega (arith, h .block .wide, h .block .short))
-    (λ c. let h = here (c .before .before) in omega (arith, h .block .wide, h .block .short))
-    (λ c. let h = here (c .before .before .before) in omega arith) (λ c. let r = from (c .before .before .before) in omega arith)
-    (λ c. let r = from (c .before .before .before) in omega (arith, r .room .inside)) (λ c. let h = here (c .before .before .before) in omega arith)
-    (λ c. let r = from (c .before .before .before) in omega (arith, r .room .inside)) (λ c. search needs) put-piece-requires (λ c. search needs)
-    (λ c. search needs) loop-again (λ c. same-long (c .before .loop .inv)) returns-2)
+put-quad-spec = tie.close (tie.spec Inv-loop μ-loop mul-off mul-off-2 mul-off-3 add-off copy-8x8-requires same-length returns loop-holds scan-x-requires scan-y-requires mul-put-piece add-put-piece mul-put-piece-2 add-put-piece-2 mul-put-piece-3 mul-put-piece-4 add-put-piece-3 mul-put-piece-5 add-put-piece-4 add-put-piece-5 put-piece-requires add-k loop-less loop-again same-length-2 returns-2)
