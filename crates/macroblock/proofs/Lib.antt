@@ -6,6 +6,7 @@ mod Drawn
 mod Early
 mod Fitting
 mod Held
+mod Known
 mod Locality
 mod Marked
 mod Pieces

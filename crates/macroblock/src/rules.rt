@@ -1,13 +1,14 @@
 // What a macroblock call is refused for before its numbers are read: a square or a neighbour outside its plane, or lists of other lengths (2), an unknown
 // record (6) and a mode that is not permitted (7).
 ghost use mathlib.Core.Path.{_≡_};
-ghost use mathlib.Core.Bool.{true, cond, not, _&&_, _||_};
+ghost use mathlib.Core.Bool.{true, not, _&&_, _||_};
 ghost use mathlib.Core.List.{List};
-ghost use Prim.Native.Nat.{_<_, _≤_};
-ghost use lib.Dec.{eqb, ltb, leb};
+ghost use Prim.Native.Nat.{ℕ, _<_, _≤_};
+ghost use lib.Dec.{eqb, leb};
 ghost use lib.IntN.{ℤ};
-ghost use lib.ListN.{length};
+ghost use lib.ListN.{length, getD};
 ghost use Rattle.laws.specs.Answer.{answer};
+ghost use Rattle.laws.specs.Table.{allBelow};
 ghost use Rattle.maps.specs.Neighbours.{marksOf};
 ghost use Rattle.macroblock.specs.Kinds.{recordOf};
 ghost use Rattle.macroblock.specs.Rules.{room, rooms, used, lastMode, permittedFor, known, permitted, earlyRules};
@@ -93,23 +94,28 @@ fn is_known(kind: u8, modes: &[u8], chroma_mode: u8) -> bool
     if kind > 2 {
         return false;
     }
-    let mut k = 0;
-    while k < 16 {
-        if !mode_known(kind, k, modes[k]) {
-            return false;
-        }
-        k += 1;
-    }
-    chroma_mode <= 3
+    let n = used_modes(kind);
+    let used = greatest_of(&modes[..n]);
+    let unused = greatest_of(&modes[n..]);
+    both(both(used <= last_mode(kind), unused == 0), chroma_mode <= 3)
 }
 
-fn mode_known(kind: u8, k: usize, mode: u8) -> bool
-    ensures { λ r. ⌜ r ≡ cond (ltb k (used kind)) (leb mode (lastMode kind)) (eqb mode 0) ⌝ }
+// The greatest of some modes, or 0. Without a way out at the first that is too great, many are taken at once.
+fn greatest_of(modes: &[u8]) -> u8
+    ensures { λ r. ⌜ ((a : ℕ) → leb r a ≡ allBelow (length (now (modes .entry))) (λ k. leb (getD (now (modes .entry)) k 0) a)) ⌝ }
 {
-    if k < used_modes(kind) {
-        return mode <= last_mode(kind);
+    let mut g = 0;
+    let n = modes.len();
+    for k in 0..n {
+        g = greater(g, modes[k]);
     }
-    mode == 0
+    g
+}
+
+fn greater(a: u8, b: u8) -> u8
+    ensures { λ r. ⌜ ((c : ℕ) → leb r c ≡ (leb a c && leb b c)) ⌝ }
+{
+    if a < b { b } else { a }
 }
 
 // How many luma modes a kind uses: one for each of its blocks.

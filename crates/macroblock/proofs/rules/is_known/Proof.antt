@@ -1,53 +1,69 @@
--- `macroblock::rules::is_known` meets its contract. The invariant: the modes passed are known. Assumes nothing.
-use mathlib.Core.Path.{_≡_, sym, ap, _∙_}
-use mathlib.Core.Bool.{true}
-use Prim.Native.Nat.{_-_, _≤_}
+-- `macroblock::rules::is_known` meets its contract: the greatest modes tell of all. Assumes nothing.
+use mathlib.Core.Path.{sym, ap, ap₂, _∙_}
+use mathlib.Core.Bool.{_&&_}
+use Prim.Native.Nat.{_+_, _-_, _≤_}
 use native.Mathlib.Omega.{arith}
-use borrow.Author.Tests.{not-true, not-false, lt-leb, le-leb}
-use lib.ListN.{length}
+use borrow.Author.Tests.{lt-leb, le-leb}
+use lib.Dec.{leb}
+use lib.ListN.{length, getD, length-take}
 use Rattle.laws.specs.Table.{allBelow}
-use Rattle.laws.proofs.Tests.{all-none, all-more, all-no}
-use Rattle.macroblock.specs.Rules.{modeKnown, known}
+use Rattle.macroblock.specs.Rules.{lastMode, modeKnown, known}
+use Rattle.macroblock.proofs.ByKind.{used-few}
+use Rattle.macroblock.proofs.Known.{none, modes-known, first-modes, other-modes}
 use borrow.Author.Needs.{needs}
 use Rattle.macroblock.proofs.rules.is_known.Statement.{statement}
 use Rattle.macroblock.proofs.rules.is_known.Tie as tie
 
-abbrev Inv-loop : tie.InvT-loop
-Inv-loop kind modes chroma k₀ k = (k ≤ 16) × (length modes ≡ 16) × (allBelow k (modeKnown kind modes) ≡ true)
-
-abbrev μ-loop : tie.MeasureT-loop
-μ-loop kind modes chroma k₀ k = 16 - k
-
-returns : tie.Need-returns Inv-loop μ-loop
+returns : tie.Need-returns
 unfolding known
 returns c numbers = rw (lt-leb (c .before .before .args .kind) 2 (omega arith))
 
-loop-holds : tie.Need-loop-holds Inv-loop μ-loop
-loop-holds c = (omega arith, c .before .before .pre, all-none _)
+-- no kind uses more modes than there are
+few : (c : tie.After-used-modes) → c .used-modes .result ≤ length (c .before .before .before .args .modes .now)
+few c = let u = c .before .before .before in omega (arith, c .used-modes .ensures, used-few (u .args .kind), u .pre)
 
-returns-2 : tie.Need-returns-2 Inv-loop μ-loop
+slice-aggregate-greatest-of : tie.Need-slice-aggregate-greatest-of
+slice-aggregate-greatest-of c = let w = c .before in omega (arith, few w, length-take (w .used-modes .result) (w .before .before .before .args .modes .now))
+
+sub-greatest-of : tie.Need-sub-greatest-of
+sub-greatest-of c = few (c .before .before)
+
+part-greatest-of-start : tie.Need-part-greatest-of-start
+part-greatest-of-start c = let h = few (c .before .before) in search needs
+
+returns-2 : tie.Need-returns-2
 unfolding known
 returns-2 c numbers =
-    let b = c .before .before .before .before in
-    let a = b .before .before .before .args in
-    rw (le-leb (a .kind) 2 (omega arith), all-no 16 (modeKnown (a .kind) (a .modes .now)) (b .loop .k) (omega arith) (sym (c .before .mode-known .ensures) ∙ not-true _ (c .if2 .taken)))
-
-loop-again : tie.Need-loop-again Inv-loop μ-loop
-loop-again c =
-    let b = c .before .before .before .before in
-    let a = b .before .before .before .args in
-    (omega arith, b .loop .inv .1, all-more (b .loop .k) (modeKnown (a .kind) (a .modes .now)) (b .loop .inv .2) (sym (c .before .mode-known .ensures) ∙ not-false _ (c .if2 .left)))
-
-returns-3 : tie.Need-returns-3 Inv-loop μ-loop
-unfolding known
-returns-3 c numbers =
     let b = c .before in
-    let a = b .before .before .before .args in
-    let e : b .loop .k ≡ 16 = omega arith in
-    rw (le-leb (a .kind) 2 (omega arith), ap (λ n. allBelow n (modeKnown (a .kind) (a .modes .now))) (sym e) ∙ b .loop .inv .2)
+    let m = b .before in
+    let o = m .before in
+    let g = o .before .before in
+    let w = g .before .before in
+    let e = w .before in
+    let u = e .before .before in
+    let kind = u .args .kind in
+    let l = u .args .modes .now in
+    let n = w .used-modes .result in
+    let used = ap (leb (g .greatest-of .result)) (m .last-mode .ensures) ∙ g .greatest-of .ensures (lastMode kind) ∙ first-modes (lastMode kind) n l (few w) in
+    let others = sym (none (o .greatest-of2 .result)) ∙ o .greatest-of2 .ensures 0 ∙ other-modes 0 n l (few w)
+    ∙ ap (λ i. allBelow (i - n) (λ k. leb (getD l (n + k) 0) 0)) (u .pre) in
+    c .both2 .ensures
+    ∙ ap (λ t. t && leb (u .args .chroma-mode) 3) (b .both .ensures ∙ ap₂ _&&_ used others ∙ modes-known kind l n (w .used-modes .ensures)
+    ∙ ap (λ t. t && allBelow 16 (modeKnown kind l)) (sym (le-leb kind 2 (e .if1 .left))))
 
 pub is-known-spec : {M : Type 1} → statement M
 is-known-spec =
     tie.close
-    (tie.spec Inv-loop μ-loop returns loop-holds (λ c. search needs) (λ c κs. search needs) returns-2 (λ c. search needs) (λ c. search needs) loop-again
-    returns-3)
+    (tie.spec
+    returns
+    (λ c κs. search needs)
+    slice-aggregate-greatest-of
+    (λ c κs. search needs)
+    sub-greatest-of
+    part-greatest-of-start
+    (λ c. search needs)
+    (λ c κs. search needs)
+    (λ c κs. search needs)
+    (λ c κs. search needs)
+    (λ c κs. search needs)
+    returns-2)
