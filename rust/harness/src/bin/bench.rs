@@ -3,9 +3,9 @@
 //! what the port is held against. Its 8x8 inverse is the one that the differential runs compare with. All are timed in turns, many times; what is
 //! told is the median of the ratios with the quartiles around it.
 //!
-//! `bench FOLDER [ROUNDS [PART]]` writes table.md, benchmark.svg and, of all rows, headline.md into the folder; with PART the rows that have it in their names. Where
-//! valgrind is installed the table also has the instructions of each side: valgrind runs this program again with `count`, which makes each call a
-//! fixed number of times and times nothing.
+//! `bench FOLDER [ROUNDS [PART]]` writes table.md, benchmark.svg and, of all rows, headline.md into the folder; with PART the rows that have it in
+//! their names. Where valgrind is installed the table also has the instructions of each side: valgrind runs this program again with `count`, which
+//! makes each call of the same rows a fixed number of times and times nothing.
 use harness::{bare_share, good_records, slice_map, sparse_records, Density, Memory, Random, Record};
 use jiwarbend::sys::*;
 use oracle::inverse_8x8::inverse_8x8;
@@ -126,6 +126,7 @@ fn instructions(folder: &Path) -> Option<Vec<f64>> {
         .arg(format!("--callgrind-out-file={}", counts.join("run").display()))
         .arg(std::env::current_exe().unwrap())
         .arg("count")
+        .args(std::env::args().skip(2))
         .status()
         .unwrap();
     if !status.success() {
@@ -142,7 +143,7 @@ fn instructions(folder: &Path) -> Option<Vec<f64>> {
 /// Times the sides in turns, in batches of about a millisecond, each call of `per` units of work. Every round another side is first.
 fn compare(group: &'static str, name: String, per: f64, mut sides: Vec<Timed>) -> Row {
     let count = sides.len();
-    if counting() {
+    if counting() && asked(&name) {
         sides.iter_mut().for_each(|side| counted_calls(counted(per), side));
     }
     if counting() || !asked(&name) {
