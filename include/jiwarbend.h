@@ -1,12 +1,13 @@
 /* Jiwarbend: H.264 intra pictures (8-bit, 4:2:0, progressive), rebuilt macroblock by macroblock and in any order.
 
-   Every function takes any numbers and lists of any length, and ends. One that can refuse answers 0, or the smallest number that applies:
+   Every function takes any numbers and lists of any length, and ends. One that can refuse answers 0, or the first number that applies in the order
+   1, 2, 3, 4, 6, 7, 5, 8:
 
      1  the picture's width is not 1..120 macroblocks, or its height not 1..68
      2  a stride, plane, map, list or count breaks the rules below, or a block's rows leave its buffer
      3  the macroblock lies outside the picture
      4  the macroblock is done
-     5  an available neighbour macroblock is not done: offer it again later
+     5  an available neighbour macroblock that holds samples which a used mode reads where it stands is not done: offer it again later
      6  the kind or a mode is unknown, or an unused mode is not 0
      7  a used mode needs samples that are not available where it stands
      8  a number lies outside -32768..32767, or the inverse transform of a block of coefficients leaves the range that the standard demands of 8-bit
@@ -100,6 +101,9 @@ uint32_t jiwarbend_start(uint32_t w, uint32_t h, uint8_t *done, size_t done_len,
    progress has its address and counts one more. When all have been accepted, each with its own record and in any order, the planes hold
    what decoding in raster order by ITU-T H.264 gives; bytes between and after the rows are never written.
 
+   It waits (5) for the available neighbours that hold what its record reads (jiwarbend_reads_4x4 and the three beside it): each used luma mode in the
+   place of its block, and the chroma mode. Where luma 16x16 and chroma are both vertical, that is the neighbour above alone.
+
    luma, cb, cr   16w by 16h, 8w by 8h and 8w by 8h samples. A stride is at least the width and at most 4096; a plane has at least
                   (height - 1) * stride + width bytes.
    done           w * h bytes; 1 is done, anything else undone.
@@ -163,6 +167,15 @@ uint16_t jiwarbend_permitted_4x4(bool avail_top, bool avail_left, bool avail_cor
 uint16_t jiwarbend_permitted_8x8(bool avail_top, bool avail_left, bool avail_corner);
 uint16_t jiwarbend_permitted_16x16(bool avail_top, bool avail_left, bool avail_corner);
 uint16_t jiwarbend_permitted_chroma(bool avail_top, bool avail_left, bool avail_corner);
+
+/* The groups of neighbour samples that a mode reads where the marks stand so: 1 above, 2 left, 4 corner and 8 above-right, added up; 0 for a mode
+   that is unknown or not permitted. A permitted mode reads a group exactly when two neighbourhoods with these marks that differ in the samples of
+   this group alone can give different predictions. The filter of an 8x8 block counts: mode 0 reads above-right there if it is available, mode 6
+   never does. Where above is available and above-right is not, the last sample above is repeated, and counts as above. */
+uint8_t jiwarbend_reads_4x4(uint8_t mode, bool avail_top, bool avail_left, bool avail_corner, bool avail_right);
+uint8_t jiwarbend_reads_8x8(uint8_t mode, bool avail_top, bool avail_left, bool avail_corner, bool avail_right);
+uint8_t jiwarbend_reads_16x16(uint8_t mode, bool avail_top, bool avail_left, bool avail_corner);
+uint8_t jiwarbend_reads_chroma(uint8_t mode, bool avail_top, bool avail_left, bool avail_corner);
 
 /* ---- the inverse transforms and clipped sums (clause 8.5)
 

@@ -66,6 +66,72 @@ pub fn permitted_chroma(marks: Marks) -> u16 {
     unsafe { sys::jiwarbend_permitted_chroma(marks.above, marks.left, marks.corner) }
 }
 
+/// A set of the groups of samples beside a block.
+#[derive(Clone, Copy, Debug, PartialEq, Eq, Hash)]
+pub struct Groups(u8);
+
+impl Groups {
+    /// Whether the row above the block is in the set.
+    pub const fn above(self) -> bool {
+        self.0 & 1 != 0
+    }
+
+    /// Whether the column to its left is.
+    pub const fn left(self) -> bool {
+        self.0 & 2 != 0
+    }
+
+    /// Whether the sample above its left column is.
+    pub const fn corner(self) -> bool {
+        self.0 & 4 != 0
+    }
+
+    /// Whether the samples above and to the right are.
+    pub const fn above_right(self) -> bool {
+        self.0 & 8 != 0
+    }
+
+    /// The set as the C functions answer it: 1 above, 2 left, 4 corner and 8 above-right, added up.
+    pub const fn bits(self) -> u8 {
+        self.0
+    }
+}
+
+/// The groups that a 4x4 luma mode reads where the marks stand so; `above_right` marks the samples above and to the right. None for a mode
+/// that is unknown or not permitted.
+///
+/// A permitted mode reads a group exactly when two neighbourhoods with the same marks that differ in the samples of this group alone can give
+/// different predictions. Where above is available and above-right is not, the last sample above is repeated, and counts as above. A
+/// macroblock [waits](Refusal::NotReady) for the neighbours that hold what it reads.
+pub fn reads_4x4(mode: u8, marks: Marks, above_right: bool) -> Groups {
+    Groups(unsafe { sys::jiwarbend_reads_4x4(mode, marks.above, marks.left, marks.corner, above_right) })
+}
+
+/// The groups that an 8x8 luma mode reads, as [`reads_4x4`] has it. What the filter of the neighbours reads counts.
+///
+/// ```
+/// use jiwarbend::block::{reads_8x8, Marks};
+/// use jiwarbend::LumaMode;
+///
+/// let all = Marks { above: true, left: true, corner: true };
+/// let vertical = reads_8x8(LumaMode::Vertical.number(), all, true);
+/// assert!(vertical.above() && vertical.corner() && vertical.above_right() && !vertical.left());
+/// assert!(!reads_8x8(LumaMode::HorizontalDown.number(), all, true).above_right());
+/// ```
+pub fn reads_8x8(mode: u8, marks: Marks, above_right: bool) -> Groups {
+    Groups(unsafe { sys::jiwarbend_reads_8x8(mode, marks.above, marks.left, marks.corner, above_right) })
+}
+
+/// The groups that a 16x16 luma mode reads, as [`reads_4x4`] has it. Above-right is never among them.
+pub fn reads_16x16(mode: u8, marks: Marks) -> Groups {
+    Groups(unsafe { sys::jiwarbend_reads_16x16(mode, marks.above, marks.left, marks.corner) })
+}
+
+/// The groups that a chroma mode reads, as [`reads_4x4`] has it. Above-right is never among them.
+pub fn reads_chroma(mode: u8, marks: Marks) -> Groups {
+    Groups(unsafe { sys::jiwarbend_reads_chroma(mode, marks.above, marks.left, marks.corner) })
+}
+
 macro_rules! predictors {
     ($($(#[$doc:meta])* $name:ident, $export:ident, $top:literal, $left:literal, $block:literal;)*) => {$(
         $(#[$doc])*

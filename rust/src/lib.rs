@@ -15,7 +15,7 @@
 //! let mut record = Record::of_16x16(Luma16x16Mode::Dc, ChromaMode::Dc);
 //! record.numbers[0] = 64 * 64;
 //!
-//! // The left neighbour comes first, since both lie in one slice.
+//! // The left neighbour comes first, since both lie in one slice and DC reads it.
 //! assert_eq!(picture.rebuild(1, 0, &record), Err(Refusal::NotReady));
 //! picture.rebuild(0, 0, &record)?;
 //! picture.rebuild(1, 0, &record)?;

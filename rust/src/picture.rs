@@ -189,8 +189,8 @@ impl<'a> Lent<'a> {
     ///
     /// # Errors
     ///
-    /// The smallest [`Refusal`] that applies; nothing was changed. [`Refusal::NotReady`] is the one that a sound caller meets: the
-    /// macroblock is offered again when its neighbours are done.
+    /// The first [`Refusal`] that applies; nothing was changed. [`Refusal::NotReady`] is the one that a sound caller meets: the macroblock is
+    /// offered again when the neighbours that its record reads are done.
     pub fn rebuild(&mut self, x: u32, y: u32, record: &Record) -> Result<(), Refusal> {
         self.rebuild_from(x, y, record.kind, &record.modes, record.chroma_mode, &record.numbers)
     }
@@ -321,8 +321,8 @@ impl Picture {
     ///
     /// # Errors
     ///
-    /// The smallest [`Refusal`] that applies, [`Refusal::Place`] to [`Refusal::Range`]; nothing was changed. [`Refusal::NotReady`] is
-    /// the one that a sound caller meets: the macroblock is offered again when its neighbours are done.
+    /// The first [`Refusal`] that applies, [`Refusal::Place`] to [`Refusal::Range`]; nothing was changed. [`Refusal::NotReady`] is the one that
+    /// a sound caller meets: the macroblock is offered again when the neighbours that its record reads are done.
     pub fn rebuild(&mut self, x: u32, y: u32, record: &Record) -> Result<(), Refusal> {
         self.lend().rebuild(x, y, record)
     }

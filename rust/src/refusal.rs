@@ -1,8 +1,9 @@
 //! What a call answers when it does not do what it was asked.
 use std::fmt;
 
-/// The reasons for which a call is refused, under their numbers. Where several hold, the smallest is given, and a refused call has
-/// written nothing. Later versions may know more of them, so that a `match` has an arm for the rest.
+/// The reasons for which a call is refused, under their numbers. Where several hold, the smallest is given, but [`Refusal::Unknown`] and
+/// [`Refusal::NotPermitted`] before [`Refusal::NotReady`]. A refused call has written nothing. Later versions may know more of them, so that a
+/// `match` has an arm for the rest.
 #[derive(Clone, Copy, Debug, PartialEq, Eq, PartialOrd, Ord, Hash)]
 #[non_exhaustive]
 #[repr(u32)]
@@ -15,7 +16,8 @@ pub enum Refusal {
     Place = 3,
     /// The macroblock is done already.
     Done = 4,
-    /// An available neighbour is not done yet: offer the macroblock again later.
+    /// An available neighbour that holds samples which the record reads is not done yet: offer the macroblock again later. What a mode reads
+    /// [`reads_4x4`](crate::block::reads_4x4) and its companions answer.
     NotReady = 5,
     /// The kind or a mode is unknown, or an unused mode is not 0.
     Unknown = 6,
@@ -65,7 +67,7 @@ impl fmt::Display for Refusal {
             Refusal::Room => "a stride, plane, map, list or count breaks the rules",
             Refusal::Place => "the macroblock lies outside the picture",
             Refusal::Done => "the macroblock is done",
-            Refusal::NotReady => "an available neighbour is not done",
+            Refusal::NotReady => "a neighbour that the record reads is not done",
             Refusal::Unknown => "a kind or mode is unknown, or an unused mode is not 0",
             Refusal::NotPermitted => "a mode is not permitted where it stands",
             Refusal::Range => "a number or a block's transform is out of range",

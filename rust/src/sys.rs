@@ -53,6 +53,10 @@ extern "C" {
     pub fn jiwarbend_permitted_8x8(avail_top: bool, avail_left: bool, avail_corner: bool) -> u16;
     pub fn jiwarbend_permitted_16x16(avail_top: bool, avail_left: bool, avail_corner: bool) -> u16;
     pub fn jiwarbend_permitted_chroma(avail_top: bool, avail_left: bool, avail_corner: bool) -> u16;
+    pub fn jiwarbend_reads_4x4(mode: u8, avail_top: bool, avail_left: bool, avail_corner: bool, avail_right: bool) -> u8;
+    pub fn jiwarbend_reads_8x8(mode: u8, avail_top: bool, avail_left: bool, avail_corner: bool, avail_right: bool) -> u8;
+    pub fn jiwarbend_reads_16x16(mode: u8, avail_top: bool, avail_left: bool, avail_corner: bool) -> u8;
+    pub fn jiwarbend_reads_chroma(mode: u8, avail_top: bool, avail_left: bool, avail_corner: bool) -> u8;
 
     pub fn jiwarbend_intra4x4_pred(
         mode: u8,

@@ -5,7 +5,7 @@ mod halfway;
 
 use jiwarbend::block::*;
 use jiwarbend::turned::Case4x4;
-use jiwarbend::Refusal;
+use jiwarbend::{ChromaMode, Luma16x16Mode, LumaMode, Refusal};
 
 const TOP: [u8; 8] = [10, 20, 30, 40, 50, 60, 70, 80];
 const LEFT: [u8; 4] = [12, 24, 36, 48];
@@ -283,6 +283,130 @@ fn permitted_sets_agree_with_the_predictors() {
             says(permitted_chroma(m), chroma8x8_pred(mode, m, &[9; 8], &[9; 8], 9).err(), 3);
         }
     }
+}
+
+/// The groups by their bits, in the order of [`Around`].
+const GROUPS: [u8; 4] = [1, 2, 4, 8];
+
+/// The samples above, to the left, at the corner, and above and to the right of a block. A predictor takes the first ones of each, as many as it has.
+type Around = [[u8; 16]; 4];
+
+/// A predictor on a neighbourhood: mode, marks, the mark of above-right, and the samples. Above-right that is not marked repeats the last sample above.
+type Predict = fn(u8, Marks, bool, &Around) -> Result<Vec<u8>, Refusal>;
+
+fn top<const T: usize>(side: usize, right: bool, [above, _, _, above_right]: &Around) -> [u8; T] {
+    std::array::from_fn(|k| match k {
+        k if k < side => above[k],
+        k if right => above_right[k - side],
+        _ => above[side - 1],
+    })
+}
+
+fn left<const L: usize>(around: &Around) -> [u8; L] {
+    std::array::from_fn(|k| around[1][k])
+}
+
+/// What the library says that a predictor reads.
+type Reads = fn(u8, Marks, bool) -> Groups;
+
+/// Each predictor beside what the library says of it.
+const READERS: [(&str, Reads, Predict); 4] = [
+    ("4x4", reads_4x4, |mode, m, right, a| intra4x4_pred(mode, m, &top(4, right, a), &left(a), a[2][0]).map(|block| block.to_vec())),
+    ("8x8", reads_8x8, |mode, m, right, a| intra8x8_pred(mode, m, &top(8, right, a), &left(a), a[2][0]).map(|block| block.to_vec())),
+    (
+        "16x16",
+        |mode, m, _| reads_16x16(mode, m),
+        |mode, m, _, a| luma16x16_pred(mode, m, &a[0], &a[1], a[2][0]).map(|block| block.to_vec()),
+    ),
+    (
+        "chroma",
+        |mode, m, _| reads_chroma(mode, m),
+        |mode, m, _, a| chroma8x8_pred(mode, m, &top(8, false, a), &left(a), a[2][0]).map(|block| block.to_vec()),
+    ),
+];
+
+/// Every mode number with every set of marks.
+fn all_modes_and_marks() -> impl Iterator<Item = (u8, Marks, bool)> {
+    let sixteen = |mode| (0..16).map(move |bits| (mode, marks(bits & 1 != 0, bits & 2 != 0, bits & 4 != 0), bits & 8 != 0));
+    (0..=255).flat_map(sixteen)
+}
+
+#[test]
+fn a_mode_reads_the_groups_whose_light_it_shows() {
+    let mut read = 0;
+    for (name, reads, predict) in READERS {
+        for (mode, m, right) in all_modes_and_marks() {
+            let dark = [[0; 16]; 4];
+            let block = predict(mode, m, right, &dark);
+            let mut shown = 0;
+            for (k, group) in GROUPS.iter().enumerate() {
+                let mut lit = dark;
+                lit[k] = [255; 16];
+                // A refused mode answers the same in the dark and in the light.
+                shown |= if predict(mode, m, right, &lit) == block { 0 } else { *group };
+            }
+            let said = reads(mode, m, right);
+            assert_eq!(said.bits(), shown, "{name}, mode {mode}, {m:?}, above-right {right}");
+            assert_eq!([said.above(), said.left(), said.corner(), said.above_right()], GROUPS.map(|group| shown & group != 0));
+            read += shown.count_ones();
+        }
+    }
+    assert!(read > 200, "{read} groups of permitted modes are read");
+}
+
+#[test]
+fn what_is_not_read_changes_no_prediction() {
+    let mut state = 1u32;
+    let mut byte = || {
+        state = state.wrapping_mul(1664525).wrapping_add(1013904223);
+        (state >> 24) as u8
+    };
+    let mut compared = 0;
+    for (name, reads, predict) in READERS {
+        for (mode, m, right) in all_modes_and_marks().filter(|&(mode, ..)| mode < 9) {
+            let groups = reads(mode, m, right).bits();
+            for _ in 0..20 {
+                let one: Around = std::array::from_fn(|_| std::array::from_fn(|_| byte()));
+                let other: Around = std::array::from_fn(|k| if groups & GROUPS[k] == 0 { std::array::from_fn(|_| byte()) } else { one[k] });
+                let block = predict(mode, m, right, &one);
+                assert_eq!(predict(mode, m, right, &other), block, "{name}, mode {mode}, {m:?}, above-right {right}");
+                compared += block.is_ok() as u32;
+            }
+        }
+    }
+    assert!(compared > 2000, "{compared} predictions");
+}
+
+#[test]
+fn named_modes_read_their_groups() {
+    let all = marks(true, true, true);
+    let set = |groups: Groups| [groups.above(), groups.left(), groups.corner(), groups.above_right()];
+    let luma = |mode: LumaMode| mode.number();
+    // Vertical copies the row above; in an 8x8 block that row is filtered first, with the corner and with the first sample above and to the right.
+    assert_eq!(set(reads_4x4(luma(LumaMode::Vertical), all, true)), [true, false, false, false]);
+    assert_eq!(set(reads_8x8(luma(LumaMode::Vertical), all, true)), [true, false, true, true]);
+    assert_eq!(set(reads_8x8(luma(LumaMode::Vertical), all, false)), [true, false, true, false]);
+    assert_eq!(set(reads_8x8(luma(LumaMode::Vertical), marks(true, true, false), true)), [true, false, false, true]);
+    assert_eq!(set(reads_16x16(Luma16x16Mode::Vertical.number(), all)), [true, false, false, false]);
+    assert_eq!(set(reads_chroma(ChromaMode::Vertical.number(), all)), [true, false, false, false]);
+    // Horizontal-down ends before the last sample above, so that the filter does not bring above-right in. Vertical-right does not end there.
+    for right in [false, true] {
+        assert_eq!(set(reads_8x8(luma(LumaMode::HorizontalDown), all, right)), [true, true, true, false]);
+        assert_eq!(set(reads_8x8(luma(LumaMode::VerticalRight), all, right)), [true, true, true, right]);
+    }
+    // Above-right that is not there is the last sample above, repeated.
+    assert_eq!(set(reads_4x4(luma(LumaMode::DiagonalDownLeft), all, true)), [true, false, false, true]);
+    assert_eq!(set(reads_4x4(luma(LumaMode::DiagonalDownLeft), all, false)), [true, false, false, false]);
+    // DC reads the sides that there are.
+    assert_eq!(set(reads_16x16(Luma16x16Mode::Dc.number(), all)), [true, true, false, false]);
+    assert_eq!(set(reads_8x8(luma(LumaMode::Dc), marks(false, true, true), true)), [false, true, true, false]);
+    assert_eq!(set(reads_chroma(ChromaMode::Dc.number(), marks(false, false, true))), [false; 4]);
+    assert_eq!(set(reads_chroma(ChromaMode::Plane.number(), all)), [true, true, true, false]);
+    // A mode that is refused reads nothing.
+    assert_eq!(reads_4x4(luma(LumaMode::Vertical), marks(false, true, true), true).bits(), 0);
+    assert_eq!(reads_8x8(luma(LumaMode::DiagonalDownRight), marks(true, true, false), true).bits(), 0);
+    assert_eq!(reads_16x16(Luma16x16Mode::Plane.number(), marks(true, false, true)).bits(), 0);
+    assert_eq!([reads_4x4(9, all, true), reads_8x8(255, all, true), reads_16x16(4, all), reads_chroma(4, all)].map(Groups::bits), [0; 4]);
 }
 
 #[test]

@@ -191,12 +191,15 @@ fn every_refusal_has_its_number() {
 }
 
 #[test]
-fn the_smallest_refusal_is_given() {
+fn the_first_refusal_of_the_order_is_given() {
     let mut memory = Memory::new();
+    let wide = Record { numbers: [i32::MIN; 384], ..flat() };
     let bad = Record { kind: 9, chroma_mode: 3, numbers: [i32::MIN; 384], ..Record::default() };
     let mut answers = Vec::new();
-    answers.push(memory.refused(0, 0, &Record { kind: 0, modes: [2; 16], ..bad.clone() }));
-    answers.push(memory.refused(0, 0, &bad));
+    answers.push(memory.refused(0, 0, &wide));
+    // All of these have an undone neighbour that DC reads. What is wrong with the modes comes before it, and what is wrong with the numbers after it.
+    answers.push(memory.refused(1, 0, &wide));
+    answers.push(memory.refused(1, 0, &Record { chroma_mode: 3, ..wide }));
     answers.push(memory.refused(1, 0, &bad));
     memory.done[1] = 1;
     answers.push(memory.refused(1, 0, &bad));
@@ -206,7 +209,114 @@ fn the_smallest_refusal_is_given() {
     memory.w = 500;
     answers.push(memory.refused(9, 0, &bad));
     let numbers: Vec<u32> = answers.iter().map(|r| r.number()).collect();
-    assert_eq!(numbers, [7, 6, 5, 4, 3, 2, 1]);
+    assert_eq!(numbers, [8, 5, 7, 6, 4, 3, 2, 1]);
+}
+
+/// The answer for the middle of the second row of 3 by 2 macroblocks in one slice, where all neighbours are done but these: `a` is to the left, `b`
+/// above, `c` above and to the right, `d` above and to the left.
+fn answer_without(undone: &str, record: &Record) -> Result<(), Refusal> {
+    let (mut done, slices) = (vec![0; 6], vec![0; 6]);
+    for (neighbour, address) in [('a', 3), ('b', 1), ('c', 2), ('d', 0)] {
+        done[address] = !undone.contains(neighbour) as u8;
+    }
+    let mut progress = Progress::at(done.iter().map(|&d| u32::from(d)).sum(), 0);
+    let (mut luma, mut cb, mut cr) = (vec![90; 48 * 32], vec![90; 24 * 16], vec![90; 24 * 16]);
+    let planes = [LentPlane::new(&mut luma, 48), LentPlane::new(&mut cb, 24), LentPlane::new(&mut cr, 24)];
+    Lent::new((3, 2), planes, &mut done, &slices, &mut progress).rebuild(1, 1, record)
+}
+
+/// The neighbours for which a record waits, each undone by itself.
+fn waits_for(record: &Record) -> String {
+    "abcd".chars().filter(|n| answer_without(&n.to_string(), record).is_err()).collect()
+}
+
+#[test]
+fn a_macroblock_waits_for_the_neighbours_that_it_reads() {
+    use LumaMode::*;
+    let vertical = Record::of_16x16(Luma16x16Mode::Vertical, ChromaMode::Vertical);
+    assert_eq!(waits_for(&vertical), "b");
+    assert_eq!(answer_without("acd", &vertical), Ok(()));
+    assert_eq!(answer_without("b", &vertical), Err(Refusal::NotReady));
+    let of_16x16 = |luma, chroma| waits_for(&Record::of_16x16(luma, chroma));
+    assert_eq!(of_16x16(Luma16x16Mode::Horizontal, ChromaMode::Horizontal), "a");
+    assert_eq!(of_16x16(Luma16x16Mode::Vertical, ChromaMode::Horizontal), "ab");
+    assert_eq!(of_16x16(Luma16x16Mode::Dc, ChromaMode::Dc), "ab");
+    assert_eq!(of_16x16(Luma16x16Mode::Plane, ChromaMode::Vertical), "abd");
+    assert_eq!(of_16x16(Luma16x16Mode::Vertical, ChromaMode::Plane), "abd");
+
+    // The other blocks read above alone, so that what is waited for beside `b` is one block's.
+    let of_4x4 = |block: usize, mode: LumaMode| {
+        let mut modes = [Vertical; 16];
+        modes[block] = mode;
+        waits_for(&Record::of_4x4(modes, ChromaMode::Vertical))
+    };
+    assert_eq!(of_4x4(0, Vertical), "b");
+    for (mode, wanted) in [(DiagonalDownLeft, "bc"), (VerticalLeft, "bc"), (DiagonalDownRight, "b"), (Horizontal, "b"), (Dc, "b")] {
+        assert_eq!(of_4x4(5, mode), wanted, "block 5, {mode:?}");
+    }
+    // Only block 0 has its corner in `d`; that of block 2 is in `a`, and that of block 1 in `b`.
+    assert_eq!([0, 1, 2, 3].map(|block| of_4x4(block, DiagonalDownRight)), ["abd", "b", "ab", "b"]);
+    assert_eq!([0, 2, 8, 10, 15].map(|block| of_4x4(block, HorizontalUp)), ["ab", "ab", "ab", "ab", "b"]);
+    // Above-right of the others in the first row is in `b`, and of block 7 it is nowhere.
+    assert_eq!([0, 1, 4, 7].map(|block| of_4x4(block, DiagonalDownLeft)), ["b"; 4]);
+
+    // The filter reads the corner, whatever the mode: block 0 has it in `d`, block 1 in `b` and block 2 in `a`. Above-right of block 1 is in `c`.
+    let of_8x8 = |mode: LumaMode| waits_for(&Record::of_8x8([Horizontal, mode, Vertical, Vertical], ChromaMode::Vertical));
+    for mode in [Vertical, Dc, DiagonalDownLeft, DiagonalDownRight, VerticalRight, VerticalLeft] {
+        assert_eq!(of_8x8(mode), "abcd", "{mode:?}");
+    }
+    for mode in [Horizontal, HorizontalDown, HorizontalUp] {
+        assert_eq!(of_8x8(mode), "abd", "{mode:?}");
+    }
+}
+
+/// A record of any kind whose modes are permitted where neither side is absent, or DC where one is.
+fn slanted(numbers: &mut Numbers, inside: bool) -> Record {
+    let mut r = record(numbers);
+    if inside {
+        let (used, modes) = [(16, 9), (4, 9), (1, 4)][r.kind as usize];
+        r.modes[..used].iter_mut().for_each(|mode| *mode = numbers.below(modes) as u8);
+        r.chroma_mode = numbers.below(4) as u8;
+    }
+    r
+}
+
+#[test]
+fn a_picture_is_the_same_in_orders_that_leave_neighbours_out() {
+    let (w, h) = (6, 5);
+    let mut numbers = Numbers(4);
+    let mut early = 0;
+    for round in 0..40 {
+        // Pictures of any modes, and pictures whose macroblocks below the first row read what is above alone.
+        let records: Vec<Record> = (0..w * h)
+            .map(|a| match round % 2 {
+                0 => slanted(&mut numbers, a % w > 0 && a / w > 0),
+                _ if a < w => record(&mut numbers),
+                _ => {
+                    let coefficients = record(&mut numbers).numbers.map(|v| v / 8);
+                    Record { numbers: coefficients, ..Record::of_16x16(Luma16x16Mode::Vertical, ChromaMode::Vertical) }
+                }
+            })
+            .collect();
+        let mut wanted = Picture::new(w, h).unwrap();
+        (0..w * h).for_each(|a| wanted.rebuild(a % w, a / w, &records[a as usize]).unwrap());
+        let mut picture = Picture::new(w, h).unwrap();
+        while !picture.is_finished() {
+            let a = numbers.below(w * h);
+            let (x, y) = (a % w, a / w);
+            let neighbours =
+                [(x.wrapping_sub(1), y), (x, y.wrapping_sub(1)), (x + 1, y.wrapping_sub(1)), (x.wrapping_sub(1), y.wrapping_sub(1))];
+            let all_done = neighbours.iter().all(|&(x, y)| x >= w || y >= h || picture.is_done(x, y));
+            let done = picture.is_done(x, y);
+            match picture.rebuild(x, y, &records[a as usize]) {
+                Ok(()) => early += !all_done as u32,
+                Err(Refusal::Done) => assert!(done),
+                Err(refusal) => assert!(refusal == Refusal::NotReady && !all_done),
+            }
+        }
+        assert!(same_planes(&picture, &wanted), "picture {round}");
+    }
+    assert!(early > 100, "{early} macroblocks were accepted beside an undone neighbour");
 }
 
 /// Coefficients of a block, by place.

@@ -239,6 +239,35 @@ fn rebuild() {
         }
         accepted("rebuild", Rebuild::new(kind).call());
     }
+    // A neighbour that the record reads is undone: a kind or mode that is unknown or not permitted comes before it, and a number out of range after it.
+    let while_waiting: [(u32, &[Bend]); 3] = [
+        (6, &[|r| r.kind = 3, |r| r.modes[0] = 9, |r| r.chroma_mode = 4]),
+        (7, &[|r| r.modes[0] = 0, |r| r.chroma_mode = 2, |r| r.chroma_mode = 3]),
+        (5, &[|r| r.numbers[0] = 32768, |r| r.numbers[368..].fill(-32768)]),
+    ];
+    for kind in 0..3 {
+        for (number, bends) in while_waiting {
+            for (k, bend) in bends.iter().enumerate() {
+                let mut call = Rebuild::new(kind);
+                call.done[0] = 0;
+                bend(&mut call);
+                refused(&format!("rebuild of kind {kind} that waits, bent in way {k}"), number, call.call());
+            }
+        }
+    }
+    // The last of 2 by 2, both modes vertical: the neighbour above is waited for, and the others are not.
+    let vertical = |done: [u8; 4]| Rebuild {
+        h: 2,
+        y: 1,
+        planes: [32 * 32, 16 * 16, 16 * 16],
+        done: done.to_vec(),
+        slices: vec![9; 4],
+        modes: vec![0; 16],
+        chroma_mode: 2,
+        ..Rebuild::new(2)
+    };
+    refused("rebuild of a vertical macroblock", 5, vertical([1, 0, 1, 0]).call());
+    accepted("rebuild of a vertical macroblock", vertical([0, 1, 0, 0]).call());
     // An unused mode that is not 0.
     for kind in 1..3 {
         let mut call = Rebuild::new(kind);

@@ -8,6 +8,14 @@ ghost use lib.Dec.{eqb, leb};
 ghost use Rattle.laws.specs.Answer.{_unless_, answer};
 ghost use Rattle.basics.specs.Marks.{permittedNxN, permitted16x16, permittedChroma, modeSet, bit, listsAnswer};
 
+// Four sides of a block, each with a mark: above, left, the corner, and above and to the right.
+pub struct Sides {
+    pub above: bool,
+    pub left: bool,
+    pub corner: bool,
+    pub above_right: bool,
+}
+
 // The permitted modes of a 4x4 luma block.
 pub fn permitted_4x4(avail_top: bool, avail_left: bool, avail_corner: bool) -> u16
     ensures { λ r. ⌜ r ≡ modeSet 9 (permittedNxN «avail_top» «avail_left» «avail_corner») ⌝ }

@@ -18,7 +18,7 @@ use Rattle.calls.specs.Rebuild.{Call, Lent, here, Acceptable, answerTo}
 use Rattle.calls.specs.Run.{Picture, totalOf, offer, AllAcceptable, RestAcceptable, Waits, Awaits, Lends, Planes, decoded, Location, sampleAt, Region, InPicture, driver, started, run, Own, rest, Event, passed, callsOf, StartsRefused}
 use Rattle.calls.specs.Run.Event.{offers, starts}
 use Rattle.calls.specs.AnyOrder.{AnyOrder}
-use Rattle.calls.proofs.OnePicture.{view, fair, spares, step, offer-here, carries, bytes, Good, begins, planes-kept, laws, told, acceptable}
+use Rattle.calls.proofs.OnePicture.{view, fair, spares, step, offer-here, Depends, carries, bytes, Good, begins, planes-kept, awaits-smaller, laws, told, acceptable}
 use Rattle.calls.proofs.Rules.{not-ready-when, never-first}
 
 -- starts that are refused leave everything
@@ -42,7 +42,7 @@ module _ (g : Picture) (s : Lent) (lends : Lends g s) where
 
   -- ---- runs with their own records
   module _ (cs : List Call) (o : Own g cs (started g s)) where
-    kept : Carries driver view (totalOf g) here Waits (step g) (Awaits g) cs (started g s)
+    kept : Carries driver view (totalOf g) here Waits (step g) (Depends g) cs (started g s)
     kept = carries g cs (started g s) o
 
     whole : AllDone (totalOf g) (run g cs s .done) → (p : Plane) → run g cs s .planes p ≡ decoded g (s .planes) p
@@ -64,7 +64,7 @@ module _ (g : Picture) (s : Lent) (lends : Lends g s) where
   same-picture : (t : Planes) → Good g s lends t → Alike sampleAt (InPicture g) (decoded g (s .planes)) (decoded g t)
   same-picture t same i (a, h, r) =
       sym (ap (λ m. sampleAt m i) (build-raster (step g) (totalOf g) (s .planes)))
-      ∙ done-agrees (laws g s lends) (raster (totalOf g)) (s .planes) t (λ q. refl) same (raster-permitted (totalOf g) (Awaits g) (laws g s lends .earlier)) a h (raster-done (totalOf g) a h) i r
+      ∙ done-agrees (laws g s lends) (raster (totalOf g)) (s .planes) t (λ q. refl) same (raster-permitted (totalOf g) (Depends g) (laws g s lends .earlier)) a h (raster-done (totalOf g) a h) i r
 
   -- ---- any runs
   fairly : Fair driver view (totalOf g) here Waits
@@ -74,7 +74,7 @@ module _ (g : Picture) (s : Lent) (lends : Lends g s) where
   sparing = spares (totalOf g) (bytes g s lends)
 
   only-earlier : (a b : ℕ) → a < totalOf g → Awaits g a b → b < a
-  only-earlier = laws g s lends .earlier
+  only-earlier = awaits-smaller g s lends
 
   sound : (cs : List Call) → Sound fairly sparing (run g cs s)
   sound cs = sound-run fairly sparing cs (begins g s lends) good

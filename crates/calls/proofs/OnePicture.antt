@@ -17,21 +17,21 @@ use Rattle.maps.proofs.Beside.{Neighbour, available-at}
 use Rattle.maps.proofs.Sizes.{start-is, address-inside, place-of}
 use Rattle.maps.proofs.Waiting.{undone-is, undone-yes, settled-is, settled-yes}
 use Rattle.macroblock.specs.Local.{Local}
-use Rattle.macroblock.specs.Rules.{listsGood}
+use Rattle.macroblock.specs.Rules.{listsGood, permitted}
 use Rattle.calls.specs.Planes.{Plane, side}
 use Rattle.calls.specs.Rebuild.{Call, Lent, here, marks, waitsFor, recordRules, Acceptable, answerTo, squareIn}
 use Rattle.calls.specs.Run.{Picture, totalOf, offer, Waits, Awaits, Lends, Planes, Location, sampleAt, Region, InPicture, driver, started, Own}
 use Rattle.calls.proofs.Lending.{PlaneRoom, plane-is}
 use Rattle.calls.proofs.Regions.{apart, tell, at-address}
-use Rattle.calls.proofs.Rules.{Passed, passed-is, passed-yes, passed-0, ready-0, by-record}
-use Rattle.calls.proofs.Squares.{square-local}
+use Rattle.calls.proofs.Rules.{Passed, passed-is, passed-yes, passed-0, first-0, permitted-0, ready-0, by-record, waits-available}
+use Rattle.calls.proofs.Squares.{dependsOn, depends-marked, square-local, square-depends}
 
 -- ---- the driver
 abbrev pub view : View Lent Planes
 view = record { memory = λ s. s .planes; done = λ s. s .done; count = λ s. s .progress .count }
 
 pub accepted-passed : (c : Call) (s : Lent) → answerTo c s ≡ 0 → Passed c s
-accepted-passed c s e = passed-is c s (passed-0 c s e)
+accepted-passed c s e = passed-is c s (first-0 c s (passed-0 c s e))
 
 pub fair : (n : ℕ) → Fair driver view n here Waits
 fair n = record {
@@ -50,8 +50,18 @@ spares n bytes = record {
       square-local c (λ q. length (s .planes q)) (g .room .planes) (g .place) p .keeps (s .planes p) ∙ k p;
 }
 
+-- ---- what a call depends on: with a permitted record, what it waits for
+abbrev pub DependsOn : Call → ℕ → Type 0
+DependsOn c b = (k : Side) × (dependsOn c k ≡ true) × (beside (c .width) (c .x) (c .y) k ≡ b)
+
+depends-waits : (c : Call) (b : ℕ) → permitted (marks c) (c .mb) ≡ true → DependsOn c b → Waits c b
+depends-waits c b ok (k, t, is) = (k, sym (rw ok) ∙ t, is)
+
 -- ---- a picture
 module _ (g : Picture) where
+  abbrev pub Depends : ℕ → ℕ → Type 0
+  Depends a b = DependsOn (offer g a) b
+
   abbrev pub step : ℕ → Planes → Planes
   step a now p = squareIn (offer g a) p (now p)
 
@@ -59,10 +69,15 @@ module _ (g : Picture) where
   pub offer-here : (a : ℕ) → here (offer g a) ≡ a
   offer-here a = div-add-mod' a (g .width)
 
-  pub carries : (cs : List Call) (s : Lent) → Own g cs s → Carries driver view (totalOf g) here Waits step (Awaits g) cs s
+  pub carries : (cs : List Call) (s : Lent) → Own g cs s → Carries driver view (totalOf g) here Waits step Depends cs s
   carries [] s o = tt
-  carries (c ∷ cs) s o =
-      ((λ e. record { does = ap (λ d p. squareIn d p (s .planes p)) (o .0 e); awaits = λ b w. subst (λ d. Waits d b) (sym (o .0 e)) w }), carries cs (after driver c s) (o .1))
+  carries (c ∷ cs) s o = (
+    (λ e. record {
+      does = ap (λ d p. squareIn d p (s .planes p)) (o .0 e);
+      awaits = λ b w. depends-waits c b (permitted-0 c s (passed-0 c s e)) (subst (λ d. DependsOn d b) (sym (o .0 e)) w);
+    }),
+    carries cs (after driver c s) (o .1),
+  )
 
   module _ (s : Lent) (lends : Lends g s) where
     abbrev pub bytes : Plane → ℕ
@@ -91,22 +106,31 @@ module _ (g : Picture) where
     pub place : (a : ℕ) → a < totalOf g → Stands (g .width) (g .height) (a % g .width) (a / g .width)
     place a h = place-of (g .width) (g .height) a (sized .0 .some-w) h
 
-    pub local : (a : ℕ) → a < totalOf g → (p : Plane) → Local (bytes p) (side p) (g .stride p) (a % g .width) (a / g .width) (marks (offer g a)) (squareIn (offer g a) p)
-    local a h p = square-local (offer g a) bytes fits (place a h) p
+    pub local : (a : ℕ) → a < totalOf g → (p : Plane) → Local (bytes p) (side p) (g .stride p) (a % g .width) (a / g .width) (dependsOn (offer g a)) (squareIn (offer g a) p)
+    local a h p = square-depends (offer g a) bytes fits (place a h) p
 
     pub stands : (a : ℕ) → a < totalOf g → (k : Side) → marks (offer g a) k ≡ true → Neighbour (g .width) (a % g .width) (a / g .width) k
     stands a h k t = available-at (g .width) (a % g .width) (a / g .width) (g .slices) k (place a h .in-w) t
 
-    pub laws : Laws sampleAt Good (totalOf g) (Region g) (Awaits g) step
+    smaller : (a b : ℕ) → a < totalOf g → (k : Side) → marks (offer g a) k ≡ true → beside (g .width) (a % g .width) (a / g .width) k ≡ b → b < a
+    smaller a b h k t is = subst (λ n. b < n) (offer-here a) (subst (λ m. m < here (offer g a)) is (stands a h k t .before))
+
+    pub awaits-smaller : (a b : ℕ) → a < totalOf g → Awaits g a b → b < a
+    awaits-smaller a b h (k, t, is) = smaller a b h k (waits-available (offer g a) k t) is
+
+    pub laws : Laws sampleAt Good (totalOf g) (Region g) Depends step
     laws = record {
       apart = λ a b (p, i) ha hb t u. apart (side p) (g .stride p) (g .width) a b i t u;
-      earlier = λ a b h (k, t, is). subst (λ n. b < n) (offer-here a) (subst (λ m. m < here (offer g a)) is (stands a h k t .before));
+      earlier = λ a b h (k, t, is). smaller a b h k (depends-marked (offer g a) k t) is;
       keeps = λ a now h k p. local a h p .keeps (now p) ∙ k p;
       writes = λ a now (p, i) h k out. local a h p .writes (now p) i (k p) out;
       reads = λ a now then h k k′ e (p, i) t.
           local a h p .reads (now p) (then p) (k p) (k′ p)
-          (λ d v j u. e (beside (g .width) (a % g .width) (a / g .width) d) (d, T-true (marks (offer g a) d) v, refl) (p, j)
-          (at-address (side p) (g .stride p) (g .width) (besideX (a % g .width) d) (besideY (a / g .width) d) j (stands a h d (T-true (marks (offer g a) d) v) .column) u)) i t;
+          (λ d v j u.
+          let w = T-true (dependsOn (offer g a) d) v in
+          let o = stands a h d (depends-marked (offer g a) d w) in
+          e (beside (g .width) (a % g .width) (a / g .width) d) (d, w, refl) (p, j)
+          (at-address (side p) (g .stride p) (g .width) (besideX (a % g .width) d) (besideY (a / g .width) d) j (o .column) u)) i t;
     }
 
     pub told : (i : Location) → Dec (InPicture g i)

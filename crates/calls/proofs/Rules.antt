@@ -1,5 +1,5 @@
--- The table of refusals, rule by rule: what the rules before the neighbours tell together, and that rule 5 is broken exactly when a neighbour that the call
--- waits for is undone. Assumes nothing.
+-- The table of refusals, rule by rule: what the first rules tell together, and that rule 5 is broken exactly when a neighbour that the call waits for is
+-- undone. Assumes nothing.
 use mathlib.Core.Path.{_≡_, refl, sym, _∙_}
 use mathlib.Core.Logic.{_↔_}
 use mathlib.Core.Bool.{Bool, true, false, not}
@@ -8,22 +8,28 @@ use Prim.Native.Nat.{ℕ, _<_}
 use lib.ListN.{length}
 use borrow.Author.Tests.{not-true}
 use Rattle.laws.specs.Answer.{Check, answer}
-use Rattle.laws.proofs.Answers.{holds, broken, passes-by, answer-without, answer-later, answer-earlier, earlier-hold}
-use Rattle.laws.proofs.Tests.{no-from}
+use Rattle.laws.proofs.Answers.{holds, broken, passes-by, passes, answer-without, answer-later, answer-earlier, earlier-hold, answer-without-rule}
+use Rattle.laws.proofs.Tests.{no-from, choose}
 use Rattle.order.specs.Order.{Done}
 use Rattle.maps.specs.Done.{isDone, allSettled}
 use Rattle.maps.specs.Neighbours.{Side, beside}
 use Rattle.maps.specs.Size.{Size, sizeOk, Stands, placeOk}
 use Rattle.maps.proofs.Beside.{available-at}
 use Rattle.maps.proofs.Sizes.{size-is, size-yes, place-is, place-yes}
-use Rattle.maps.proofs.Waiting.{settled-is, settled-no}
-use Rattle.macroblock.specs.Rules.{listsGood, knownRule, permittedRule, numbersRule}
+use Rattle.maps.proofs.Waiting.{settled-is, settled-yes, settled-no}
+use Rattle.macroblock.specs.Rules.{listsGood, known, permitted, knownRule, permittedRule, numbersRule, earlyRules}
+use Rattle.waits.proofs.Narrow.{waits-marked}
 use Rattle.calls.specs.Planes.{roomOk}
-use Rattle.calls.specs.Rebuild.{Call, Lent, here, marks, waitsFor, neighboursRule, rules, answerTo, earlierRules, earlier, recordRules}
+use Rattle.calls.specs.Rebuild.{Call, Lent, here, marks, waitsFor, neighboursRule, rules, answerTo, firstRules, first, earlier, recordRules}
+use Rattle.calls.specs.inner.Waiting.{waitingAnswer}
 use Rattle.calls.proofs.Lending.{LentRoom, room-is, room-yes}
 
+-- a neighbour that is waited for is available
+pub waits-available : (c : Call) (k : Side) → waitsFor c k ≡ true → marks c k ≡ true
+waits-available c k e = waits-marked (marks c) (c .mb) k e
+
 module _ (c : Call) (s : Lent) where
-  -- what the rules before the neighbours tell
+  -- what the first rules tell
   pub record Passed : Type 0 where
     pub size : Size (c .width) (c .height)
     pub room : LentRoom (c .width) (c .height) (c .stride) (λ p. length (s .planes p)) (length (s .done)) (length (c .slices)) (s .progress .count)
@@ -31,8 +37,8 @@ module _ (c : Call) (s : Lent) where
     pub place : Stands (c .width) (c .height) (c .x) (c .y)
     pub undone : isDone (s .done) (here c) ≡ false
 
-  pub passed-is : earlier c s ≡ 0 → Passed
-  unfolding earlierRules
+  pub passed-is : first c s ≡ 0 → Passed
+  unfolding firstRules
   passed-is e =
       let p₁ = passes-by 0 (sizeOk (c .width) (c .height)) _ e in
       let p₂ = passes-by 1 (roomOk (c .width) (c .height) (c .stride) (λ p. length (s .planes p)) (length (s .done)) (length (c .slices)) (s .progress .count)) _ (p₁ .1) in
@@ -47,8 +53,8 @@ module _ (c : Call) (s : Lent) where
         undone = not-true (isDone (s .done) (here c)) (p₅ .0);
       }
 
-  pub passed-yes : Passed → earlier c s ≡ 0
-  unfolding earlierRules
+  pub passed-yes : Passed → first c s ≡ 0
+  unfolding firstRules
   passed-yes g =
       rw (
         size-yes (c .width) (c .height) (g .size),
@@ -58,43 +64,87 @@ module _ (c : Call) (s : Lent) where
         g .undone,
       )
 
-  -- the fifth rule, and those after it
+  -- the rules on the record's modes, the fifth, and the last
   abbrev pub readyNow : Bool
-  readyNow = allSettled (c .width) (c .x) (c .y) (waitsFor c) (s .done)
+  readyNow = neighboursRule c s .holds
+
+  abbrev modes : List Check
+  modes = knownRule (c .mb) ∷ permittedRule (marks c) (c .mb) ∷ []
 
   abbrev last : List Check
-  last = knownRule (c .mb) ∷ permittedRule (marks c) (c .mb) ∷ numbersRule (c .mb) ∷ []
+  last = numbersRule (c .mb) ∷ []
 
-  in-order : rules c s ≡ earlierRules c s ++ (neighboursRule c s ∷ last)
-  unfolding rules earlierRules
+  in-order : rules c s ≡ firstRules c s ++ (modes ++ (neighboursRule c s ∷ last))
+  unfolding rules firstRules
   in-order = refl
 
-  late : earlier c s ≡ 0 → answerTo c s ≡ answer (neighboursRule c s ∷ last)
-  unfolding earlierRules
-  late e = rw in-order (answer-later (earlierRules c s) (neighboursRule c s ∷ last) tt e)
+  in-time : rules c s ≡ (firstRules c s ++ modes) ++ (neighboursRule c s ∷ last)
+  unfolding rules firstRules
+  in-time = refl
 
-  pub refused-by : ¬ (earlier c s ≡ 0) → answerTo c s ≡ earlier c s
-  refused-by n = rw in-order (answer-earlier (earlierRules c s) (neighboursRule c s ∷ last) n)
+  late : first c s ≡ 0 → answerTo c s ≡ answer (modes ++ (neighboursRule c s ∷ last))
+  unfolding firstRules
+  late e = rw in-order (answer-later (firstRules c s) (modes ++ (neighboursRule c s ∷ last)) tt e)
+
+  later : earlier c s ≡ 0 → answerTo c s ≡ answer (neighboursRule c s ∷ last)
+  unfolding firstRules
+  later e = rw in-time (answer-later (firstRules c s ++ modes) (neighboursRule c s ∷ last) tt e)
+
+  -- the first of them that a call breaks decides
+  pub refused-by : ¬ (first c s ≡ 0) → answerTo c s ≡ first c s
+  refused-by n = rw in-order (answer-earlier (firstRules c s) (modes ++ (neighboursRule c s ∷ last)) n)
 
   -- a call that is accepted passed them, and so did one that is not ready
   pub passed-0 : answerTo c s ≡ 0 → earlier c s ≡ 0
-  passed-0 e = earlier-hold 0 (earlierRules c s) (neighboursRule c s ∷ last) (λ n. n) (rw in-order at e)
+  passed-0 e = earlier-hold 0 (firstRules c s ++ modes) (neighboursRule c s ∷ last) (λ n. n) (rw in-time at e)
 
   passed-5 : answerTo c s ≡ 5 → earlier c s ≡ 0
-  unfolding earlierRules
-  passed-5 e = earlier-hold 5 (earlierRules c s) (neighboursRule c s ∷ last) (λ _. answer-without 4 (earlierRules c s) tt) (rw in-order at e)
+  unfolding firstRules
+  passed-5 e = earlier-hold 5 (firstRules c s ++ modes) (neighboursRule c s ∷ last) (λ _. answer-without 4 (firstRules c s ++ modes) tt) (rw in-time at e)
 
-  pub not-ready : earlier c s ≡ 0 → readyNow ≡ false → answerTo c s ≡ 5
-  not-ready e f = late e ∙ broken 5 last f
+  pub first-0 : earlier c s ≡ 0 → first c s ≡ 0
+  first-0 e = earlier-hold 0 (firstRules c s) modes (λ n. n) e
+
+  pub permitted-0 : earlier c s ≡ 0 → permitted (marks c) (c .mb) ≡ true
+  unfolding firstRules
+  permitted-0 e =
+      let f = sym (answer-later (firstRules c s) modes tt (first-0 e)) ∙ e in
+      passes 6 (permitted (marks c) (c .mb)) [] (passes 5 (known (c .mb)) (permittedRule (marks c) (c .mb) ∷ []) f .1) .0
+
+  not-ready : earlier c s ≡ 0 → readyNow ≡ false → answerTo c s ≡ 5
+  not-ready e f = later e ∙ broken 5 last f
 
   -- a ready call's answer is that of the rules that speak of its record
-  pub by-record : earlier c s ≡ 0 → readyNow ≡ true → answerTo c s ≡ answer (recordRules c)
+  pub by-record : first c s ≡ 0 → readyNow ≡ true → answerTo c s ≡ answer (recordRules c)
   unfolding recordRules
-  by-record e t = late e ∙ holds 5 last t ∙ sym (holds 2 last (passed-is e .lists))
+  by-record e t = late e ∙ answer-without-rule modes 5 last t ∙ sym (holds 2 (modes ++ last) (passed-is e .lists))
+
+  -- what is answered before the macroblock is rebuilt
+  abbrev pub waiting : ℕ
+  waiting = waitingAnswer (c .width) (c .x) (c .y) (marks c) (waitsFor c) (c .mb) (s .done)
+
+  pub waiting-refuses : first c s ≡ 0 → ¬ (waiting ≡ 0) → answerTo c s ≡ waiting
+  waiting-refuses e =
+      choose (λ r. ¬ (r ≡ 0) → answerTo c s ≡ r) (allSettled (c .width) (c .x) (c .y) (marks c) (s .done)) 0 (answer (earlyRules (marks c) (c .mb) ++ (neighboursRule c s ∷ [])))
+      (λ _ n. absurd (n refl))
+      (λ _ n.
+      let f = holds 2 (modes ++ (neighboursRule c s ∷ [])) (passed-is e .lists) in
+      late e ∙ answer-earlier (modes ++ (neighboursRule c s ∷ [])) last (λ z. n (f ∙ z)) ∙ sym f)
+
+  pub waiting-ready : waiting ≡ 0 → readyNow ≡ true
+  waiting-ready =
+      choose (λ r. r ≡ 0 → readyNow ≡ true) (allSettled (c .width) (c .x) (c .y) (marks c) (s .done)) 0 (answer (earlyRules (marks c) (c .mb) ++ (neighboursRule c s ∷ [])))
+      (λ t _.
+      settled-yes (c .width) (c .x) (c .y) (waitsFor c) (s .done)
+      (λ d w. settled-is (c .width) (c .x) (c .y) (marks c) (s .done) t d (waits-available c d w)))
+      (λ _ z.
+      let f = passes 1 (listsGood (c .mb)) (modes ++ (neighboursRule c s ∷ [])) z .1 in
+      let k = passes 5 (known (c .mb)) (permittedRule (marks c) (c .mb) ∷ neighboursRule c s ∷ []) f .1 in
+      passes 4 readyNow [] (passes 6 (permitted (marks c) (c .mb)) (neighboursRule c s ∷ []) k .1) .0)
 
   pub not-ready-when : earlier c s ≡ 0 → (answerTo c s ≡ 5) ↔ ((k : Side) × (waitsFor c k ≡ true) × ¬ Done (s .done) (beside (c .width) (c .x) (c .y) k))
   not-ready-when e = (
-    (λ f. settled-no (c .width) (c .x) (c .y) (waitsFor c) (s .done) (no-from readyNow (λ t. answer-without 4 last tt (sym (late e ∙ holds 5 last t) ∙ f)) (λ z. z))),
+    (λ f. settled-no (c .width) (c .x) (c .y) (waitsFor c) (s .done) (no-from readyNow (λ t. answer-without 4 last tt (sym (later e ∙ holds 5 last t) ∙ f)) (λ z. z))),
     (λ (k, t, n). not-ready e (no-from readyNow (λ r. n (settled-is (c .width) (c .x) (c .y) (waitsFor c) (s .done) r k t)) (λ z. z))),
   )
 
@@ -105,9 +155,10 @@ module _ (c : Call) (s : Lent) where
       go true t = refl
       go false t = absurd (answer-without 4 [] tt (sym e ∙ not-ready (passed-0 e) t))
 
-  -- neighbours have smaller addresses
+  -- a neighbour that is waited for has a smaller address
   pub never-first : ((b : ℕ) → b < here c → Done (s .done) b) → ¬ (answerTo c s ≡ 5)
   never-first below f =
       let e = passed-5 f in
       let u = not-ready-when e .0 f in
-      u .2 (below (beside (c .width) (c .x) (c .y) (u .0)) (available-at (c .width) (c .x) (c .y) (c .slices) (u .0) (passed-is e .place .in-w) (u .1) .before))
+      let t = waits-available c (u .0) (u .1) in
+      u .2 (below (beside (c .width) (c .x) (c .y) (u .0)) (available-at (c .width) (c .x) (c .y) (c .slices) (u .0) (passed-is (first-0 e) .place .in-w) t .before))

@@ -1,6 +1,7 @@
--- A macroblock of the picture lies in its planes, and each available neighbour with it: so the macroblock call finds room. Assumes nothing.
-use mathlib.Core.Path.{_≡_, ap, _∙_}
-use mathlib.Core.Bool.{Bool, true}
+-- A macroblock of the picture lies in its planes, and each available neighbour with it: so the macroblock call finds room, and its square is local.
+-- Assumes nothing.
+use mathlib.Core.Path.{_≡_, refl, ap, _∙_}
+use mathlib.Core.Bool.{Bool, true, false, cond}
 use mathlib.Core.List.{List}
 use Prim.Native.Nat.{ℕ, suc, _+_, _*_, _-_, _≤_, _<_}
 use native.Mathlib.Nat.{mul-le-mul-right, suc-mul}
@@ -9,19 +10,22 @@ use lib.Dec.{ltb}
 use borrow.Author.Tests.{ltb-true, le-leb}
 use Rattle.laws.specs.Answer.{answer}
 use Rattle.laws.proofs.Answers.{holds}
-use Rattle.laws.proofs.Tests.{and-both, and-of, implied-of}
+use Rattle.laws.proofs.Tests.{and-both, and-of, implied-of, choose}
 use Rattle.maps.specs.Neighbours.{Side, inPicture, available}
 use Rattle.maps.specs.Neighbours.Side.{A, B, C, D}
 use Rattle.maps.specs.Size.{Stands}
 use Rattle.maps.proofs.Beside.{available-inside}
-use Rattle.macroblock.specs.Rules.{room, rooms, rebuildAnswer}
+use Rattle.macroblock.specs.Rules.{room, rooms, permitted, rebuildAnswer}
 use Rattle.macroblock.specs.declared.Strides.{Strides}
 use Rattle.macroblock.specs.Local.{Local, Promise}
 use Rattle.macroblock.proofs.Promised.{promised}
+use Rattle.waits.specs.Narrow.{Narrow}
+use Rattle.waits.proofs.Narrow.{narrow}
 use Rattle.calls.specs.Planes.{Plane, side}
 use Rattle.calls.specs.Planes.Plane.{luma, cb, cr}
-use Rattle.calls.specs.Rebuild.{Call, marks, recordRules, squareIn}
+use Rattle.calls.specs.Rebuild.{Call, marks, waitsFor, recordRules, squareIn}
 use Rattle.calls.proofs.Lending.{PlaneRoom}
+use Rattle.calls.proofs.Rules.{waits-available}
 
 module _ (q w h s n x y : ℕ) (q-pos : 0 < q) (fits : PlaneRoom q w h s n) (place : Stands w h x y) where
   below : suc y * q ≤ h * q
@@ -62,6 +66,14 @@ side-pos luma = omega arith
 side-pos cb = omega arith
 side-pos cr = omega arith
 
+-- the neighbours that what a call leaves depends on: those that it waits for, and every available one where its record is not permitted, so that the call
+-- is never accepted
+abbrev pub dependsOn : Call → Side → Bool
+dependsOn c d = cond (permitted (marks c) (c .mb)) (waitsFor c d) (marks c d)
+
+pub depends-marked : (c : Call) (d : Side) → dependsOn c d ≡ true → marks c d ≡ true
+depends-marked c d = choose (λ b. b ≡ true → marks c d ≡ true) (permitted (marks c) (c .mb)) (waitsFor c d) (marks c d) (λ _. waits-available c d) (λ _ t. t)
+
 -- a call whose macroblock lies in the picture, over planes of so many bytes each
 module _ (c : Call) (bytes : Plane → ℕ) (fits : (p : Plane) → PlaneRoom (side p) (c .width) (c .height) (c .stride p) (bytes p)) (place : Stands (c .width) (c .height) (c .x) (c .y)) where
   abbrev strides : Strides
@@ -89,3 +101,17 @@ module _ (c : Call) (bytes : Plane → ℕ) (fits : (p : Plane) → PlaneRoom (s
   square-local luma = kept-promise .luma
   square-local cb = kept-promise .cb
   square-local cr = kept-promise .cr
+
+  -- with a permitted record it depends on those only that it waits for
+  square-narrow : permitted (marks c) (c .mb) ≡ true → (p : Plane) → Local (bytes p) (side p) (c .stride p) (c .x) (c .y) (waitsFor c) (squareIn c p)
+  square-narrow ok = λ p. elim p [ luma ↦ w .luma | cb ↦ w .cb | cr ↦ w .cr ]
+    where
+      w : Narrow (c .x) (c .y) (bytes luma) (bytes cb) (bytes cr) strides (marks c) (c .mb)
+      w = narrow (c .x) (c .y) (bytes luma) (bytes cb) (bytes cr) strides (marks c) (c .mb) rooms-hold ok
+
+  pub square-depends : (p : Plane) → Local (bytes p) (side p) (c .stride p) (c .x) (c .y) (dependsOn c) (squareIn c p)
+  square-depends p = go (permitted (marks c) (c .mb)) refl
+    where
+      go : (b : Bool) → permitted (marks c) (c .mb) ≡ b → Local (bytes p) (side p) (c .stride p) (c .x) (c .y) (λ d. cond b (waitsFor c d) (marks c d)) (squareIn c p)
+      go true e = square-narrow e p
+      go false e = square-local p

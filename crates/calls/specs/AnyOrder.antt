@@ -33,7 +33,7 @@ pub record AnyOrder (g : Picture) : Type 0 where
   -- starts that are refused between the calls change nothing
   pub same-run : (es : List Event) (s : Lent) → StartsRefused es s → passed es s ≡ play driver (callsOf es) s
   -- ---- never stuck
-  -- a call that passes the earlier checks is refused as not ready exactly when a neighbour that it waits for is undone
+  -- a call that passes the earlier checks is refused as not ready exactly when a neighbour that it waits for, one that holds what its record reads, is undone
   pub not-ready : (c : Call) (s : Lent) → earlier c s ≡ 0
       → (answerTo c s ≡ 5) ↔ ((k : Side) × (waitsFor c k ≡ true) × ¬ Done (s .done) (beside (c .width) (c .x) (c .y) k))
   -- so the first undone macroblock, by address, never is

@@ -3,3 +3,4 @@ pub mod AnyOrder
 pub mod Planes
 pub mod Rebuild
 pub mod Run
+pub mod inner

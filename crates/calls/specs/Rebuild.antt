@@ -1,7 +1,7 @@
 -- The macroblock call: what it is given, what it is lent, its answer, and what an accepted one leaves.
 use mathlib.Core.Path.{_≡_}
 use mathlib.Core.Bool.{Bool}
-use mathlib.Core.List.{List, [], _∷_}
+use mathlib.Core.List.{List, [], _∷_, _++_}
 use Prim.Native.Nat.{ℕ}
 use lib.ListN.{length, set}
 use Rattle.laws.specs.Answer.{Check, _unless_, answer, written}
@@ -15,6 +15,7 @@ use Rattle.macroblock.specs.Kinds.{lumaSquare, cbSquare, crSquare}
 use Rattle.macroblock.specs.Rules.{listRule, knownRule, permittedRule, numbersRule}
 use Rattle.macroblock.specs.declared.Record.{Record}
 use Rattle.macroblock.specs.declared.Strides.{Strides}
+use Rattle.waits.specs.Waits.{waits}
 use Rattle.calls.specs.Planes.{Plane, three, roomOk}
 use Rattle.calls.specs.Planes.Plane.{luma, cb, cr}
 
@@ -48,9 +49,9 @@ here c = address (c .width) (c .x) (c .y)
 abbrev pub marks : Call → Side → Bool
 marks c = available (c .width) (c .slices) (c .x) (c .y)
 
--- the neighbours that it waits for: those that are available
+-- the neighbours that it waits for: those that hold what its record reads
 abbrev pub waitsFor : Call → Side → Bool
-waitsFor c = marks c
+waitsFor c = waits (marks c) (c .mb)
 
 -- ---- the table of refusals
 -- 2: what is lent is as large as the size and the strides ask
@@ -68,18 +69,18 @@ rules c s =
     ∷ listRule (c .mb)
     ∷ placeRule (c .width) (c .height) (c .x) (c .y)
     ∷ undoneRule (s .done) (here c)
-    ∷ neighboursRule c s
     ∷ knownRule (c .mb)
     ∷ permittedRule (marks c) (c .mb)
+    ∷ neighboursRule c s
     ∷ numbersRule (c .mb)
     ∷ []
 
 abbrev pub answerTo : Call → Lent → ℕ
 answerTo c s = answer (rules c s)
 
--- the rules before the neighbours are looked at
-unfoldable pub earlierRules : Call → Lent → List Check
-earlierRules c s =
+-- the rules before the record's modes are looked at
+unfoldable pub firstRules : Call → Lent → List Check
+firstRules c s =
     sizeRule (c .width) (c .height)
     ∷ lentRule c s
     ∷ listRule (c .mb)
@@ -87,8 +88,12 @@ earlierRules c s =
     ∷ undoneRule (s .done) (here c)
     ∷ []
 
+abbrev pub first : Call → Lent → ℕ
+first c s = answer (firstRules c s)
+
+-- those before the neighbours are looked at
 abbrev pub earlier : Call → Lent → ℕ
-earlier c s = answer (earlierRules c s)
+earlier c s = answer (firstRules c s ++ (knownRule (c .mb) ∷ permittedRule (marks c) (c .mb) ∷ []))
 
 -- a record is acceptable at its place where the rules that speak of it hold
 unfoldable pub recordRules : Call → List Check

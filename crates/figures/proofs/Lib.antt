@@ -1,2 +1,3 @@
 -- What the figures follow from where they are not computed.
 pub mod FlatFigures
+pub mod ReadFigures

@@ -1,2 +1,3 @@
 -- The worked figures of the rules that are proved.
 pub mod Figures
+pub mod ReadFigures

@@ -1,10 +1,10 @@
 // Runs the limits that the rules name and that are not proved as figures: strides, offsets, lengths and numbers of the block calls, sizes, maps and
-// records of the picture calls, and a picture rebuilt in two orders. Each line says what was called and what came of it.
+// records of the picture calls, and pictures rebuilt in two orders. Each line says what was called and what came of it.
 mod blocks; // calls on one block
 mod offer; // a record to a picture
 mod pictures; // calls on a picture
 mod ranges; // blocks of coefficients at the ends of the range
-mod shuffled; // a picture in two orders
+mod shuffled; // pictures in two orders
 mod tell;
 
 use libc::STDOUT_FILENO;
@@ -28,6 +28,7 @@ fn main() {
     pictures::starts();
     pictures::sizes();
     pictures::slices();
+    pictures::waiting();
     pictures::refusals();
     pictures::ranges();
     shuffled::compare();

@@ -207,22 +207,36 @@ pub(crate) fn slices() {
     tell(b"address 3, count 7", at(0, 1, three, map, 7, flat(0)));
 }
 
-// Each refusal at one place, the smallest first where several hold.
-pub(crate) fn refusals() {
+// A neighbour that is undone, with a record that breaks another rule too.
+pub(crate) fn waiting() {
     let one: [u16; 6] = [5, 5, 5, 5, 5, 5];
     let none: [u8; 6] = [0, 0, 0, 0, 0, 0];
-    let first: [u8; 6] = [1, 0, 0, 0, 0, 0];
     let odd: [u8; 6] = [2, 0, 0, 0, 0, 0];
-    tell(b"y 2", at(0, 2, none, one, 0, flat(0)));
-    tell(b"done, with a kind of 3", at(0, 0, first, one, 1, flat(3)));
     tell(
         b"a neighbour undone, with a kind of 3",
         at(1, 0, none, one, 0, flat(3)),
     );
     tell(
+        b"a neighbour undone, with 4x4 mode 0 at the top",
+        at(1, 0, none, one, 0, with_mode(flat(0), 0, 0)),
+    );
+    tell(
+        b"a neighbour undone, with number 32768",
+        at(1, 0, none, one, 0, with_number(flat(0), 32768)),
+    );
+    tell(
         b"a neighbour whose byte is 2, not 1",
         at(1, 0, odd, one, 0, flat(0)),
     );
+}
+
+// Each refusal at one place, that of the earliest rule where several are broken.
+pub(crate) fn refusals() {
+    let one: [u16; 6] = [5, 5, 5, 5, 5, 5];
+    let none: [u8; 6] = [0, 0, 0, 0, 0, 0];
+    let first: [u8; 6] = [1, 0, 0, 0, 0, 0];
+    tell(b"y 2", at(0, 2, none, one, 0, flat(0)));
+    tell(b"done, with a kind of 3", at(0, 0, first, one, 1, flat(3)));
     tell(b"kind 3", at(0, 0, none, one, 0, flat(3)));
     tell(
         b"4x4 mode 9",

@@ -1,6 +1,7 @@
-// A picture of 3 by 2 macroblocks in two slices, rebuilt in raster order and in a shuffled order that comes round six times, over planes that held
-// different bytes. Luma is 48 by 32 with stride 52, chroma 24 by 16 with stride 27; every other byte is padding.
-ghost use Prim.Native.Nat.{_<_};
+// Pictures of 3 by 2 macroblocks, each rebuilt in raster order and in another one, over planes that held different bytes. The first has two slices, and
+// both of its orders come round six times. The second has one slice, vertical macroblocks in its second row, and an order that comes once and in which
+// some of these stand between neighbours that are not done. Luma is 48 by 32 with stride 52, chroma 24 by 16 with stride 27; every other byte is padding.
+ghost use Prim.Native.Nat.{_≤_, _<_};
 use super::offer::offer;
 use super::tell::tell;
 use jiwarbend::pictures::jiwarbend_start;
@@ -11,7 +12,12 @@ use maps::size::Spot;
 
 const SLICES: [u16; 6] = [0, 0, 1, 0, 0, 1];
 
+const RASTER: [u32; 6] = [0, 1, 2, 3, 4, 5];
+
 const SHUFFLED: [u32; 6] = [4, 2, 5, 3, 1, 0];
+
+// Macroblock 4 comes after B alone, and before A, its left neighbour 3, and C, 2; macroblock 3 before C.
+const DOWNWARDS: [u32; 6] = [0, 1, 4, 3, 2, 5];
 
 // By address: the kind, the mode of a 16x16 macroblock, and the chroma mode.
 const KIND: [u8; 6] = [0, 1, 0, 2, 2, 1];
@@ -115,6 +121,38 @@ fn record_of(a: usize) -> Record {
     }
 }
 
+// The record of macroblock a of the second picture: DC in its first row, and vertical below.
+fn vertical_record_of(a: usize) -> Record {
+    let mut modes = [0u8; 16];
+    let mut chroma_mode = 2;
+    if a < 3 {
+        modes[0] = 2;
+        chroma_mode = 0;
+    }
+    let numbers = numbers_of(a);
+    Record {
+        kind: 2,
+        modes,
+        chroma_mode,
+        numbers,
+    }
+}
+
+// The two pictures: the slice map, and the record of macroblock a.
+fn slices_of(second: bool) -> [u16; 6] {
+    if second {
+        return [0u16; 6];
+    }
+    SLICES
+}
+
+fn offered(second: bool, a: usize) -> Record {
+    if second {
+        return vertical_record_of(a);
+    }
+    record_of(a)
+}
+
 // How often each answer was given.
 struct Answers {
     accepted: u32,
@@ -141,14 +179,18 @@ fn count(n: Answers, answer: u32) -> Answers {
     m
 }
 
-// The answers to six rounds of the order, each macroblock offered with its own record.
+// The answers to so many offers of one of the pictures in an order that comes round, each macroblock with its own record.
 fn rebuild_all(
+    second: bool,
     order: [u32; 6],
+    offers: usize,
     luma: &mut [u8],
     cb: &mut [u8],
     cr: &mut [u8],
     done: &mut [u8],
-) -> Answers {
+) -> Answers
+    requires { ⌜ offers ≤ 36 ⌝ }
+{
     let mut n = Answers {
         accepted: 0,
         done: 0,
@@ -162,7 +204,8 @@ fn rebuild_all(
         cb: 27,
         cr: 27,
     };
-    for i in 0..36 {
+    let slices = slices_of(second);
+    for i in 0..offers {
         let a = order[i % 6];
         let spot = Spot {
             w: 3,
@@ -177,9 +220,9 @@ fn rebuild_all(
             cr,
             strides,
             done,
-            &SLICES,
+            &slices,
             &mut progress,
-            record_of(a as usize),
+            offered(second, a as usize),
         );
         n = count(n, r);
     }
@@ -249,26 +292,57 @@ fn tell_differing(d: Differing) {
     tell(b"  padding bytes that changed", d.padding);
 }
 
+// The first picture, and the second.
 pub(crate) fn compare() {
+    io::write_all(STDOUT_FILENO, b"two slices, six rounds\n");
+    both_orders(false, SHUFFLED, 36);
+    io::write_all(
+        STDOUT_FILENO,
+        b"one slice, vertical macroblocks below DC, one round\n",
+    );
+    both_orders(true, DOWNWARDS, 6);
+}
+
+// A picture in raster order, and then in another one.
+fn both_orders(second: bool, order: [u32; 6], offers: usize)
+    requires { ⌜ offers ≤ 36 ⌝ }
+{
     let mut luma = [11u8; 1670];
     let mut cb = [12u8; 440];
     let mut cr = [13u8; 440];
     let mut done = [1u8; 6];
     io::write_all(STDOUT_FILENO, b"raster order\n");
-    let raster = [0, 1, 2, 3, 4, 5];
-    let n = rebuild_all(raster, &mut luma, &mut cb, &mut cr, &mut done);
+    let n = rebuild_all(
+        second,
+        RASTER,
+        offers,
+        &mut luma,
+        &mut cb,
+        &mut cr,
+        &mut done,
+    );
     tell_answers(n);
-    shuffle(&luma, &cb, &cr);
+    shuffle(second, order, offers, &luma, &cb, &cr);
 }
 
 // The other run, and what differs.
-fn shuffle(luma: &[u8], cb: &[u8], cr: &[u8]) {
+fn shuffle(second: bool, order: [u32; 6], offers: usize, luma: &[u8], cb: &[u8], cr: &[u8])
+    requires { ⌜ offers ≤ 36 ⌝ }
+{
     let mut luma2 = [201u8; 1670];
     let mut cb2 = [202u8; 440];
     let mut cr2 = [203u8; 440];
     let mut done = [0u8; 6];
-    io::write_all(STDOUT_FILENO, b"shuffled order\n");
-    let n = rebuild_all(SHUFFLED, &mut luma2, &mut cb2, &mut cr2, &mut done);
+    io::write_all(STDOUT_FILENO, b"another order\n");
+    let n = rebuild_all(
+        second,
+        order,
+        offers,
+        &mut luma2,
+        &mut cb2,
+        &mut cr2,
+        &mut done,
+    );
     tell_answers(n);
     io::write_all(STDOUT_FILENO, b"luma of the two\n");
     tell_differing(compared(luma, 11, &luma2, 201, 48, 32, 52));

@@ -1,5 +1,6 @@
 // The routines that never refuse a value.
 ghost use mathlib.Core.Path.{_≡_};
+ghost use mathlib.Core.Bool.{false};
 ghost use mathlib.Core.List.{[], _∷_};
 ghost use lib.IntN.{pos};
 ghost use Rattle.laws.specs.Answer.{_unless_, answer, written};
@@ -7,6 +8,8 @@ ghost use Rattle.basics.specs.Clip.{Clip1};
 ghost use Rattle.basics.specs.Marks.{modeSet, permittedNxN, permitted16x16, permittedChroma};
 ghost use Rattle.basics.specs.Nnz.{nC, inRaster};
 ghost use Rattle.basics.specs.Qp.{QPc};
+ghost use Rattle.reads.specs.Exactly.{Exactly, luma4x4, luma8x8, luma16x16, chroma8x8};
+ghost use Rattle.reads.specs.Groups.{marked, groupSet, reads4x4, reads8x8, reads16x16, readsChroma};
 ghost use Rattle.jiwarbend.specs.Exports.{_has_, neighbor};
 
 #[no_mangle]
@@ -93,4 +96,58 @@ pub extern "C" fn jiwarbend_permitted_chroma(
     ensures { λ r. ⌜ r ≡ modeSet 4 (permittedChroma «avail_top» «avail_left» «avail_corner») ⌝ }
 {
     basics::marks::permitted_chroma(avail_top, avail_left, avail_corner)
+}
+
+#[no_mangle]
+pub extern "C" fn jiwarbend_reads_4x4(
+    mode: u8,
+    avail_top: bool,
+    avail_left: bool,
+    avail_corner: bool,
+    avail_right: bool,
+) -> u8
+    ensures { λ r. ⌜ r ≡ groupSet (reads4x4 (marked «avail_top» «avail_left» «avail_corner» «avail_right») mode) ⌝ }
+    ensures { λ _. ⌜ Exactly luma4x4 ⌝ }
+{
+    reads::groups::reads_4x4(mode, avail_top, avail_left, avail_corner, avail_right)
+}
+
+#[no_mangle]
+pub extern "C" fn jiwarbend_reads_8x8(
+    mode: u8,
+    avail_top: bool,
+    avail_left: bool,
+    avail_corner: bool,
+    avail_right: bool,
+) -> u8
+    ensures { λ r. ⌜ r ≡ groupSet (reads8x8 (marked «avail_top» «avail_left» «avail_corner» «avail_right») mode) ⌝ }
+    ensures { λ _. ⌜ Exactly luma8x8 ⌝ }
+{
+    reads::groups::reads_8x8(mode, avail_top, avail_left, avail_corner, avail_right)
+}
+
+#[no_mangle]
+pub extern "C" fn jiwarbend_reads_16x16(
+    mode: u8,
+    avail_top: bool,
+    avail_left: bool,
+    avail_corner: bool,
+) -> u8
+    ensures { λ r. ⌜ r ≡ groupSet (reads16x16 (marked «avail_top» «avail_left» «avail_corner» false) mode) ⌝ }
+    ensures { λ _. ⌜ Exactly luma16x16 ⌝ }
+{
+    reads::groups::reads_16x16(mode, avail_top, avail_left, avail_corner)
+}
+
+#[no_mangle]
+pub extern "C" fn jiwarbend_reads_chroma(
+    mode: u8,
+    avail_top: bool,
+    avail_left: bool,
+    avail_corner: bool,
+) -> u8
+    ensures { λ r. ⌜ r ≡ groupSet (readsChroma (marked «avail_top» «avail_left» «avail_corner» false) mode) ⌝ }
+    ensures { λ _. ⌜ Exactly chroma8x8 ⌝ }
+{
+    reads::groups::reads_chroma(mode, avail_top, avail_left, avail_corner)
 }

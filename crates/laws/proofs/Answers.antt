@@ -86,3 +86,8 @@ earlier-hold r xs ys n e = go (answer xs) refl
     go (suc k) f =
         let m : ¬ (answer xs ≡ 0) = λ z. let y : _≡_ {A = ℕ} (suc k) 0 = sym f ∙ z in omega arith in
         absurd (n m (sym (answer-earlier xs ys m) ∙ e))
+
+-- a rule that holds can be left out
+pub answer-without-rule : {b : Bool} (xs : List Check) (n : ℕ) (ys : List Check) → b ≡ true → answer (xs ++ (n unless b ∷ ys)) ≡ answer (xs ++ ys)
+answer-without-rule [] n ys e = holds n ys e
+answer-without-rule (x ∷ xs) n ys e = ap (λ r. cond (x .holds) r (x .number)) (answer-without-rule xs n ys e)

@@ -65,3 +65,7 @@ table-there n f z b l e h = rw e h
 
 pub table-absent : {A : Type 0} (n : ℕ) (f : ℕ → A) (z : A) (b : Bool) (l : List A) → b ≡ false → l ≡ replicate n z → l ≡ table n (λ t. cond b (f t) z)
 table-absent n f z b l e h = h ∙ sym (table-const n z) ∙ rw e
+
+-- tables that are equal are equal at each place
+pub table-at : {A : Type 0} (n : ℕ) (f g : ℕ → A) → table n f ≡ table n g → (i : ℕ) → i < n → f i ≡ g i
+table-at n f g e i h = sym (getD-table (f i) n f i h) ∙ ap (λ l. getD l i (f i)) e ∙ getD-table (f i) n g i h

@@ -9,7 +9,7 @@ use native.Mathlib.Numerals.{add-one}
 use native.Mathlib.Omega.{arith}
 use borrow.Author.Tests.{lt-ltb, le-ltb}
 use lib.Dec.{T, ltb}
-use Rattle.laws.specs.Table.{allBelow}
+use Rattle.laws.specs.Table.{allBelow, someBelow}
 
 -- ---- one test
 pub true-T : (b : Bool) → b ≡ true → T b
@@ -65,6 +65,13 @@ and-some false b e = inl refl
 pub or-either : {P : Type 0} (a b : Bool) → (a ≡ true → P) → (b ≡ true → P) → a || b ≡ true → P
 or-either true b f g e = f refl
 or-either false b f g e = g e
+
+pub or-left : (a b : Bool) → a ≡ true → a || b ≡ true
+or-left a b e = rw e
+
+pub or-right : (a b : Bool) → b ≡ true → a || b ≡ true
+or-right true b e = refl
+or-right false b e = e
 
 pub both-left : (a b : Bool) → T (a && b) → T a
 both-left true b t = tt
@@ -140,6 +147,16 @@ pub all-no : (n : ℕ) (f : ℕ → Bool) (i : ℕ) → i < n → f i ≡ false 
 all-no n f i h e = no-from (allBelow n f) (λ g. all-at n f g i h) (λ g. not-both g e)
 
 -- the other way: a test that holds at every place
+-- a test that does not hold everywhere fails somewhere
+pub all-fails : (n : ℕ) (f : ℕ → Bool) → allBelow n f ≡ false → (i : ℕ) × (i < n) × (f i ≡ false)
+unfolding allBelow
+all-fails zero f e = absurd (not-both refl e)
+all-fails (suc n) f e = go (allBelow n f) e (all-fails n f)
+  where
+    go : (b : Bool) → b && f n ≡ false → (b ≡ false → (i : ℕ) × (i < n) × (f i ≡ false)) → (i : ℕ) × (i < suc n) × (f i ≡ false)
+    go true h r = (n, omega arith, h)
+    go false h r = let k = r refl in (k .0, omega (arith, k .1), k .2)
+
 pub all-of : (n : ℕ) (f : ℕ → Bool) → ((i : ℕ) → i < n → f i ≡ true) → allBelow n f ≡ true
 unfolding allBelow
 all-of zero f h = refl
@@ -202,3 +219,25 @@ ltb-next i c q = go (decLt i c)
     go : Dec (i < c) → ltb i c ≡ ltb i (c + 1)
     go (yes h) = lt-ltb i c h ∙ sym (lt-ltb i (c + 1) (omega arith))
     go (no h) = le-ltb i c (omega arith) ∙ sym (le-ltb i (c + 1) (omega arith))
+
+-- ---- tests that hold at one of n numbers
+pub some-none : (f : ℕ → Bool) → someBelow 0 f ≡ false
+unfolding someBelow
+some-none f = refl
+
+pub some-next : (n : ℕ) (f : ℕ → Bool) → someBelow n f || f n ≡ someBelow (n + 1) f
+unfolding someBelow
+some-next n f = rw (add-one n)
+
+pub some-of : (n : ℕ) (f : ℕ → Bool) (k : ℕ) → k < n → f k ≡ true → someBelow n f ≡ true
+unfolding someBelow
+some-of zero f k h e = absurd (omega arith)
+some-of (suc n) f k h e =
+    let low : k ≤ n = omega arith in
+    ⊎-elim (λ (z : k ≡ n). or-right (someBelow n f) (f n) (sym (ap f z) ∙ e)) (λ (l : k < n). or-left (someBelow n f) (f n) (some-of n f k l e)) (eq-or-lt-of-le low)
+
+pub some-is : (n : ℕ) (f : ℕ → Bool) → someBelow n f ≡ true → (k : ℕ) × (k < n) × (f k ≡ true)
+unfolding someBelow
+some-is zero f e = absurd (not-both {b = false} e refl)
+some-is (suc n) f e =
+    or-either (someBelow n f) (f n) (λ h. let k = some-is n f h in (k .0, omega (arith, k .1), k .2)) (λ h. (n, omega arith, h)) e

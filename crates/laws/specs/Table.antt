@@ -1,5 +1,5 @@
 -- Lists, sums and tests by their places.
-use mathlib.Core.Bool.{Bool, true, _&&_}
+use mathlib.Core.Bool.{Bool, true, false, _&&_, _||_}
 use mathlib.Core.List.{List, [], _∷_, _++_}
 use Prim.Native.Nat.{ℕ, zero, suc, _+_, _*_, _/_, _%_}
 use lib.IntN.{ℤ, pos, _+ℤ_}
@@ -36,6 +36,11 @@ sumZ (suc n) f = sumZ n f +ℤ f n
 unfoldable pub allBelow : ℕ → (ℕ → Bool) → Bool
 allBelow zero f = true
 allBelow (suc n) f = allBelow n f && f n
+
+-- f holds at one of them
+unfoldable pub someBelow : ℕ → (ℕ → Bool) → Bool
+someBelow zero f = false
+someBelow (suc n) f = someBelow n f || f n
 
 -- p holds of each n numbers of a list
 abbrev pub allBlocks : ℕ → (List ℤ → Bool) → List ℤ → Bool

@@ -13,7 +13,7 @@ use Rattle.basics.specs.Clip.{Clip1}
 use Rattle.basics.specs.Near.{Near}
 use Rattle.maps.specs.Neighbours.{Side}
 use Rattle.macroblock.specs.declared.cut.Place.{Place}
-use Rattle.macroblock.specs.declared.cut.Sides.{Sides}
+use Rattle.basics.specs.declared.marks.Sides.{Sides}
 use Rattle.macroblock.specs.Cut.{Cut, scanX, scanY, isThere, sidesOf, squareSides, placeOf}
 use Rattle.macroblock.specs.Square.{putBlock, nearBlock, part}
 use Rattle.macroblock.proofs.Pieces.{put-same}

@@ -1,20 +1,21 @@
--- The laws about this crate's definitions: the promise to the picture is `promised`, and what lies in a block is `Places`. The others serve the proofs here.
+-- The laws about this crate's definitions: the promise to the picture is `promised`, what lies in a block is `Places`, and who holds what stands beside it is
+-- `Held`. Those that are `pub` are for other crates and for a reader; the others serve the proofs here.
+pub mod ByKind
+pub mod Held
+pub mod Locality
 pub mod Places
 pub mod Promised
-mod ByKind
+pub mod Rooms
+pub mod Scan
 mod Drawn
 mod Early
 mod Fitting
-mod Held
 mod Known
-mod Locality
 mod Marked
 mod Pieces
 mod Predicted
 mod Quarters
-mod Rooms
 mod Rows
-mod Scan
 mod Sides
 mod Sums
 mod Transforms

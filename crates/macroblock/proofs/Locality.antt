@@ -152,14 +152,14 @@ module _ (c : Cut) (rule : Rule) (n s x y : ℕ) (marks : Side → Bool) (S : Sc
     near-same = λ i. near (above-same i) (left-same i) (corner-same i)
 
   -- what a block leaves at a place of its own
-  put-at : (k : ℕ) (p : List ℕ) (i : ℕ) → k < m * m → length p ≡ n → InPart q m (placeAt s y x) S k i
+  pub put-at : (k : ℕ) (p : List ℕ) (i : ℕ) → k < m * m → length p ≡ n → InPart q m (placeAt s y x) S k i
       → getD (part c rule s x y marks k p) i 0 ≡ rule k (sidesOf m marks k) (partNear c rule s x y marks k p) (i % s % q) (i / s % q)
   put-at k p i hk o t = patch-here (inBlock q s (y * m + scanY k) (x * m + scanX k)) _ p i (rw o (in-plane i (stands .block) (block-in q m (placeAt s y x) S k i hk t))) t
 
   kept : (k : ℕ) (p : List ℕ) → length (part c rule s x y marks k p) ≡ length p
   kept k p = length-patch (inBlock q s (y * m + scanY k) (x * m + scanX k)) _ p
 
-  parts : Parts sampleIn (λ p. length p ≡ n) Outside (m * m) (InPart q m (placeAt s y x) S) (part c rule s x y marks)
+  pub parts : Parts sampleIn (λ p. length p ≡ n) Outside (m * m) (InPart q m (placeAt s y x) S) (part c rule s x y marks)
   parts = record {
     apart = block-apart q m (placeAt s y x) S;
     outside = λ k i hk t (d, v, u).

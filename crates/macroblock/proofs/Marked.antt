@@ -13,7 +13,7 @@ use Rattle.basics.specs.Marks.{permittedNxN, permitted16x16, permittedChroma}
 use Rattle.maps.specs.Neighbours.{Side}
 use Rattle.maps.specs.Neighbours.Side.{A, B, D}
 use Rattle.macroblock.specs.declared.Record.{Record}
-use Rattle.macroblock.specs.declared.cut.Sides.{Sides}
+use Rattle.basics.specs.declared.marks.Sides.{Sides}
 use Rattle.macroblock.specs.Cut.{scanX, scanY, sidesOf}
 use Rattle.macroblock.specs.Kinds.{cutFor}
 use Rattle.macroblock.specs.Rules.{used, lastMode, modeKnown, known, permittedFor, permittedAt, permitted}

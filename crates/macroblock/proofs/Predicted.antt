@@ -11,7 +11,7 @@ use Rattle.laws.proofs.Answers.{put}
 use Rattle.laws.proofs.Tables.{length-table}
 use Rattle.basics.specs.Marks.{modeAnswer}
 use Rattle.macroblock.specs.declared.cut.Place.{Place}
-use Rattle.macroblock.specs.declared.cut.Sides.{Sides}
+use Rattle.basics.specs.declared.marks.Sides.{Sides}
 use Rattle.macroblock.specs.Square.{aboveOf, leftOf}
 
 length-above : (q n : ℕ) (p : Place) (plane : List ℕ) (sides : Sides) → length (aboveOf q p plane sides n) ≡ n

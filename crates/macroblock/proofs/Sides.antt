@@ -10,7 +10,7 @@ use Rattle.laws.proofs.Tests.{and-left}
 use Rattle.basics.specs.Nnz.{blkIdx}
 use Rattle.maps.specs.Neighbours.{Side}
 use Rattle.macroblock.specs.declared.cut.Place.{Place}
-use Rattle.macroblock.specs.declared.cut.Sides.{Sides}
+use Rattle.basics.specs.declared.marks.Sides.{Sides}
 use Rattle.macroblock.specs.Cut.{scanX, scanY, heldBy, isThere, sidesOf, squareSides, placeOf}
 use Rattle.maps.specs.Neighbours.Side.{A, B, C, D}
 use Rattle.macroblock.specs.Cut.Holder.{own, other, nobody}

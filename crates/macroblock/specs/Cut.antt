@@ -10,7 +10,7 @@ use Rattle.basics.specs.Nnz.{blkIdx}
 use Rattle.maps.specs.Neighbours.{Side}
 use Rattle.maps.specs.Neighbours.Side.{A, B, C, D}
 use Rattle.macroblock.specs.declared.cut.Place.{Place}
-use Rattle.macroblock.specs.declared.cut.Sides.{Sides}
+use Rattle.basics.specs.declared.marks.Sides.{Sides}
 
 -- blocks of `side` by `side` samples, `across` of them in a row and in a column of the square; a block's rule reads `wide` samples above it
 pub record Cut : Type 0 where
@@ -77,18 +77,25 @@ nextY v B = v
 nextY v C = v
 nextY v D = v
 
+-- who holds the samples on a side of block k, with m blocks across
+abbrev pub holderOn : ℕ → ℕ → Side → Holder
+holderOn m k d = holderAt m k (nextX (scanX k) d) (nextY (scanY k) d)
+
 abbrev pub heldBy : (Side → Bool) → Holder → Bool
 heldBy marks own = true
 heldBy marks (other d) = marks d
 heldBy marks nobody = false
 
--- are the samples on a side of block k there, with m blocks across?
+-- are they there?
 unfoldable pub isThere : ℕ → (Side → Bool) → ℕ → Side → Bool
-isThere m marks k d = heldBy marks (holderAt m k (nextX (scanX k) d) (nextY (scanY k) d))
+isThere m marks k d = heldBy marks (holderOn m k d)
 
 -- 6.4.11: the sides of block k, and those of a square that is one block
 abbrev pub sidesOf : ℕ → (Side → Bool) → ℕ → Sides
 sidesOf m marks k = record { above = isThere m marks k B; left = isThere m marks k A; corner = isThere m marks k D; «above_right» = isThere m marks k C }
+
+abbrev pub noSides : Sides
+noSides = record { above = false; left = false; corner = false; «above_right» = false }
 
 abbrev pub squareSides : (Side → Bool) → Sides
 squareSides marks = record { above = marks B; left = marks A; corner = marks D; «above_right» = marks C }

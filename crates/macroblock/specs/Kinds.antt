@@ -17,7 +17,7 @@ use Rattle.basics.specs.Near.{Near}
 use Rattle.basics.specs.Nnz.{blkIdx}
 use Rattle.maps.specs.Neighbours.{Side}
 use Rattle.macroblock.specs.declared.Record.{Record}
-use Rattle.macroblock.specs.declared.cut.Sides.{Sides}
+use Rattle.basics.specs.declared.marks.Sides.{Sides}
 use Rattle.macroblock.specs.Cut.{Cut, four, eight, whole}
 use Rattle.macroblock.specs.Square.{Rule, allParts}
 

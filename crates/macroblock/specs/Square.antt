@@ -11,7 +11,7 @@ use Rattle.laws.specs.Table.{table}
 use Rattle.basics.specs.Near.{Near, near}
 use Rattle.maps.specs.Neighbours.{Side}
 use Rattle.macroblock.specs.declared.cut.Place.{Place}
-use Rattle.macroblock.specs.declared.cut.Sides.{Sides}
+use Rattle.basics.specs.declared.marks.Sides.{Sides}
 use Rattle.macroblock.specs.Cut.{Cut, blocks, sidesOf, placeOf}
 
 -- a plane cut into blocks of one side: place i lies in the block in that row and column of blocks

@@ -5,14 +5,17 @@ ghost use Prim.Native.Nat.{_+_, _*_, _-_, _≤_, _<_};
 ghost use lib.Dec.{eqb, ltb, leb};
 ghost use Rattle.basics.specs.Nnz.{blkIdx};
 ghost use Rattle.maps.specs.Neighbours.{marksOf};
-ghost use Rattle.macroblock.specs.Cut.{scanX, scanY, sidesOf, squareSides, placeOf};
+ghost use Rattle.macroblock.specs.Cut.{scanX, scanY, sidesOf, noSides, squareSides, placeOf};
 ghost use Rattle.macroblock.specs.Kinds.{cutFor};
+ghost use Rattle.macroblock.specs.Rules.{used};
 ghost use Rattle.macroblock.specs.inner.Blocks.{BlockOf, Low, lumaPlace};
 use super::Strides;
+use super::rules::used_modes;
+use basics::marks::Sides;
 use maps::neighbours::Marks;
 
 // How many blocks of a kind's luma are in a row.
-pub(crate) fn across(kind: u8) -> usize
+pub fn across(kind: u8) -> usize
     ensures { λ r. ⌜ r ≡ cutFor kind .across ⌝ }
 {
     if kind == 0 {
@@ -77,15 +80,22 @@ pub(crate) fn place_of(k: usize, m: usize, spot: Spot) -> Place
     }
 }
 
-// Which sides of a block are there: above, left, the corner, and above and to the right.
-pub(crate) struct Sides {
-    pub above: bool,
-    pub left: bool,
-    pub corner: bool,
-    pub above_right: bool,
+// The sides of luma block k of a kind that are there, from the marks of the neighbour macroblocks; none where the kind has no such block.
+pub fn sides_at(kind: u8, k: usize, marks: Marks) -> Sides
+    ensures { λ r. ⌜ r ≡ cond (ltb k (used kind)) (sidesOf (cutFor kind .across) (marksOf marks) k) noSides ⌝ }
+{
+    if k < used_modes(kind) {
+        return sides_of(k, across(kind), marks);
+    }
+    Sides {
+        above: false,
+        left: false,
+        corner: false,
+        above_right: false,
+    }
 }
 
-// The sides of block k of m across, from the marks of the neighbour macroblocks.
+// The sides of block k of m across.
 pub(crate) fn sides_of(k: usize, m: usize, marks: Marks) -> Sides
     requires { ⌜ BlockOf m k ⌝ }
     ensures { λ r. ⌜ r ≡ sidesOf m (marksOf marks) k ⌝ }

@@ -15,12 +15,12 @@ use rules::has_rooms;
 use rules::record_answer;
 
 mod beside; // the samples beside a block
-mod cut; // 6.4: where blocks stand and which of their sides are there
+pub mod cut; // 6.4: where blocks stand and which of their sides are there
 mod planes; // the square of each plane, block by block
 mod predict; // 8.3: predictions
 mod put; // 8.5.14: sums
 mod residuals; // 8.5.1 to 8.5.4: residuals, and refusal 8
-mod rules; // refusals 2, 6 and 7
+pub mod rules; // refusals 2, 6 and 7
 pub mod scan_xy; // 6.4.3: the order of the luma blocks
 
 // A macroblock: its kind, 0 for 4x4, 1 for 8x8 and 2 for 16x16, its luma modes, its chroma mode, and 256 numbers for luma, 64 for Cb and 64 for Cr.

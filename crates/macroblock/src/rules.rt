@@ -12,10 +12,10 @@ ghost use Rattle.laws.specs.Table.{allBelow};
 ghost use Rattle.maps.specs.Neighbours.{marksOf};
 ghost use Rattle.macroblock.specs.Kinds.{recordOf};
 ghost use Rattle.macroblock.specs.Rules.{room, rooms, used, lastMode, permittedFor, known, permitted, earlyRules};
-use super::cut::Sides;
 use super::cut::Spot;
 use super::cut::across;
 use super::cut::sides_of;
+use basics::marks::Sides;
 use maps::neighbours::Marks;
 
 // Whether the square of side q at (x, y), and each marked neighbour, lies in a plane of `len` samples.
@@ -58,13 +58,7 @@ fn implies(p: bool, q: bool) -> bool
 }
 
 // What a record is refused for at these marks before its numbers are read, and 0 where it is not.
-pub(crate) fn record_answer(
-    marks: Marks,
-    kind: u8,
-    modes: &[u8],
-    chroma_mode: u8,
-    numbers: &[i32],
-) -> u32
+pub fn record_answer(marks: Marks, kind: u8, modes: &[u8], chroma_mode: u8, numbers: &[i32]) -> u32
     ensures { λ r. ⌜ r ≡ answer (earlyRules (marksOf marks) (recordOf kind (now (modes .entry)) «chroma_mode» (now (numbers .entry)))) ⌝ }
 {
     if !has_lists(modes.len(), numbers.len()) {
@@ -119,7 +113,7 @@ fn greater(a: u8, b: u8) -> u8
 }
 
 // How many luma modes a kind uses: one for each of its blocks.
-pub(crate) fn used_modes(kind: u8) -> usize
+pub fn used_modes(kind: u8) -> usize
     ensures { λ r. ⌜ r ≡ used kind ⌝ }
 {
     if kind == 0 {

@@ -1,4 +1,5 @@
-//! A driver over whole pictures that calls the Rust's routines and the 8x8 inverse: the rules' checks in their order, then the macroblock.
+//! A driver over whole pictures that calls the Rust's routines and the 8x8 inverse: the rules' checks in their order, then the macroblock. What a macroblock
+//! waits for it takes from the groups of samples that its modes read, which were found by trial (`reads`).
 //!
 //! It comes in forms for the benchmark. `CHECKS` says whether refusals 6 to 8 are looked for. `SHORT` gives blocks whose only coefficient is
 //! the first, or which have none, one residual for all samples, which needs no inverse; a block without any keeps its prediction. `MADE` says that the
@@ -6,6 +7,7 @@
 //! range is found on the way.
 use crate::inverse_8x8::inverse_8x8;
 use crate::predict::{self, I16Mode, CHROMA_4X4_SCAN_XY, LUMA_4X4_SCAN_XY};
+use crate::reads::{self, ABOVE, ABOVE_RIGHT, CORNER, LEFT};
 use crate::rules::{self, Marks};
 
 pub struct Plane<'a> {
@@ -81,10 +83,40 @@ impl Picture<'_> {
             && numbers.len() == 384
     }
 
-    fn ready(&self, at: usize, n: Near) -> bool {
+    /// Whether every available neighbour is done: then nothing is waited for, whatever the record reads.
+    fn neighbours_done(&self, at: usize, n: Near) -> bool {
         let w = self.w as usize;
-        let waits = |there: bool, back: usize| there && self.done[at - back] != 1;
-        !(waits(n.a, 1) || waits(n.b, w) || (n.c && self.done[at + 1 - w] != 1) || waits(n.d, w + 1))
+        let undone = |there: bool, back: usize| there && self.done[at - back] != 1;
+        !(undone(n.a, 1) || undone(n.b, w) || (n.c && self.done[at + 1 - w] != 1) || undone(n.d, w + 1))
+    }
+
+    /// Whether an undone macroblock holds samples that a used block of the macroblock at `(x, y)` reads.
+    #[cold]
+    fn waits(&self, (x, y): (usize, usize), n: Near, kind: u8, modes: &[u8], chroma_mode: u8) -> bool {
+        let whole = marks(0, 0, n);
+        let luma = match kind {
+            0 => LUMA_4X4_SCAN_XY.iter().enumerate().any(|(k, &(bx, by))| {
+                let read = reads::reads_4x4(modes[k], marks(bx, by, n), right_4x4(k, n));
+                self.holds_undone(read, (4 * x + bx, 4 * y + by), 4)
+            }),
+            1 => (0..4).any(|k| {
+                let (bx, by) = (k % 2, k / 2);
+                let read = reads::reads_8x8(modes[k], marks(bx, by, n), right_8x8(k, n));
+                self.holds_undone(read, (2 * x + bx, 2 * y + by), 2)
+            }),
+            _ => self.holds_undone(reads::reads_16x16(modes[0], whole), (x, y), 1),
+        };
+        luma || self.holds_undone(reads::reads_chroma(chroma_mode, whole), (x, y), 1)
+    }
+
+    /// Whether one of these groups, which are available, lies in another macroblock that is undone. The block is in column `bx` and row `by` of the
+    /// picture's blocks, of which a macroblock has `side` in a row. A group lies in the block beside it, and so in that block's macroblock.
+    fn holds_undone(&self, groups: u8, (bx, by): (usize, usize), side: usize) -> bool {
+        let beside = [(ABOVE, (0, -1)), (LEFT, (-1, 0)), (CORNER, (-1, -1)), (ABOVE_RIGHT, (1, -1))];
+        beside.into_iter().filter(|(group, _)| groups & group != 0).any(|(_, (right, down))| {
+            let (x, y) = (bx.wrapping_add_signed(right) / side, by.wrapping_add_signed(down) / side);
+            (x, y) != (bx / side, by / side) && self.done[y * self.w as usize + x] != 1
+        })
     }
 
     /// Rebuilds the macroblock in column `x` and row `y`, or answers the refusal.
@@ -117,7 +149,13 @@ impl Picture<'_> {
             return 4;
         }
         let n = near(self.w as usize, self.slices, x, y);
-        if !self.ready(at, n) {
+        let ready = self.neighbours_done(at, n);
+        if CHECKS {
+            if let Err(refusal) = modes_pass(kind, modes, chroma_mode, n) {
+                return refusal;
+            }
+        }
+        if !ready && self.waits((x, y), n, kind, modes, chroma_mode) {
             return 5;
         }
         let planes = [&mut self.luma, &mut self.cb, &mut self.cr];
@@ -142,9 +180,24 @@ pub fn macroblock(
     chroma_mode: u8,
     numbers: &[i32],
 ) -> u32 {
-    macroblock_as::<true, false>(planes, place, n, kind, modes, chroma_mode, numbers)
+    match modes_pass(kind, modes, chroma_mode, n) {
+        Ok(()) => macroblock_as::<true, false>(planes, place, n, kind, modes, chroma_mode, numbers),
+        Err(refusal) => refusal,
+    }
 }
 
+/// Refusals 6 and 7.
+fn modes_pass(kind: u8, modes: &[u8], chroma_mode: u8, n: Near) -> Result<(), u32> {
+    if !known(kind, modes, chroma_mode) {
+        return Err(6);
+    }
+    if !permitted(kind, modes, chroma_mode, n) {
+        return Err(7);
+    }
+    Ok(())
+}
+
+/// The same of a record whose kind and modes are known and permitted.
 fn macroblock_as<const CHECKS: bool, const SHORT: bool>(
     [luma, cb, cr]: [&mut Plane; 3],
     (x, y): (usize, usize),
@@ -154,19 +207,11 @@ fn macroblock_as<const CHECKS: bool, const SHORT: bool>(
     chroma_mode: u8,
     numbers: &[i32],
 ) -> u32 {
-    if CHECKS {
-        if !known(kind, modes, chroma_mode) {
-            return 6;
-        }
-        if !permitted(kind, modes, chroma_mode, n) {
-            return 7;
-        }
-        if !rules::all_surely_in_range(kind, numbers) {
-            return match rules::all_residuals(kind, numbers) {
-                Ok(res) => put_all::<SHORT, true>([luma, cb, cr], (x, y), n, kind, modes, chroma_mode, &res),
-                Err(refusal) => refusal,
-            };
-        }
+    if CHECKS && !rules::all_surely_in_range(kind, numbers) {
+        return match rules::all_residuals(kind, numbers) {
+            Ok(res) => put_all::<SHORT, true>([luma, cb, cr], (x, y), n, kind, modes, chroma_mode, &res),
+            Err(refusal) => refusal,
+        };
     }
     put_all::<SHORT, false>([luma, cb, cr], (x, y), n, kind, modes, chroma_mode, numbers)
 }
@@ -256,6 +301,21 @@ pub fn marks(bx: usize, by: usize, n: Near) -> Marks {
     Marks { above: by > 0 || n.b, left: bx > 0 || n.a, corner }
 }
 
+/// Whether the samples above and to the right of 4x4 block `k` are available.
+fn right_4x4(k: usize, n: Near) -> bool {
+    match k {
+        3 | 7 | 11 | 13 | 15 => false,
+        5 => n.c,
+        0 | 1 | 4 => n.b,
+        _ => true,
+    }
+}
+
+/// The same of 8x8 block `k`.
+fn right_8x8(k: usize, n: Near) -> bool {
+    [n.b, n.c, true, false][k]
+}
+
 /// The row above, as far as `N` samples reach; the last `N / 2` repeat the one before them where they are not available.
 fn above<const N: usize>(p: &Plane, at: usize, there: bool, right: bool) -> [u8; N] {
     let mut top = [0; N];
@@ -293,14 +353,8 @@ fn corner(p: &Plane, at: usize, there: bool) -> u8 {
 fn blocks_4x4<const SHORT: bool, const MADE: bool>(p: &mut Plane, x: usize, y: usize, n: Near, modes: &[u8], numbers: &[i32]) {
     for (k, &(bx, by)) in LUMA_4X4_SCAN_XY.iter().enumerate() {
         let m = marks(bx, by, n);
-        let right = match k {
-            3 | 7 | 11 | 13 | 15 => false,
-            5 => n.c,
-            0 | 1 | 4 => n.b,
-            _ => true,
-        };
         let at = (y * 16 + by * 4) * p.stride + x * 16 + bx * 4;
-        let top = above::<8>(p, at, m.above, right);
+        let top = above::<8>(p, at, m.above, right_4x4(k, n));
         let column = left::<4>(p, at, m.left);
         let pred = predict::intra4x4_pred(modes[k], m.above, m.left, &top, &column, corner(p, at, m.corner));
         reconstruct::<SHORT, MADE>(&numbers[16 * k..][..16], &pred, 0, 4, p, at);
@@ -311,9 +365,8 @@ fn blocks_8x8<const SHORT: bool, const MADE: bool>(p: &mut Plane, x: usize, y: u
     for k in 0..4 {
         let (bx, by) = (k % 2, k / 2);
         let m = marks(bx, by, n);
-        let right = [n.b, n.c, true, false][k];
         let at = (y * 16 + by * 8) * p.stride + x * 16 + bx * 8;
-        let top = above::<16>(p, at, m.above, right);
+        let top = above::<16>(p, at, m.above, right_8x8(k, n));
         let column = left::<8>(p, at, m.left);
         let pred = predict::intra8x8_pred(modes[k], m.above, m.left, m.corner, &top, &column, corner(p, at, m.corner));
         let block = sums_8x8::<SHORT, MADE>(numbers[64 * k..][..64].try_into().unwrap(), pred);

@@ -1,11 +1,12 @@
 //! The Rust that was ported, as its own files say it, beside it the 8x8 inverse and the range of the values inside both inverses, which they do not
-//! have, and around all of it the rules of docs/RULES.md: what a call is refused for, and a driver over whole pictures that makes the same checks in
-//! the same order as the port.
+//! have, and around all of it the rules of docs/RULES.md: what a call is refused for, what a mode reads, and a driver over whole pictures that makes the
+//! same checks in the same order as the port.
 include!(concat!(env!("OUT_DIR"), "/modules.rs"));
 
 pub mod driver;
 pub mod halfway;
 pub mod inverse_8x8;
+pub mod reads;
 pub mod rules;
 
 /// Stands in for the crate's own module: its `inverse_core` is that of transform_quant.rs. What only `reconstruct_4x4_scan_into` needs,

@@ -15,7 +15,7 @@ use Rattle.maps.specs.Neighbours.{Side, marksOf}
 use Rattle.macroblock.specs.Cut.{scanX, scanY, sidesOf, squareSides}
 use Rattle.maps.specs.Neighbours.Side.{A, B, D}
 use Rattle.macroblock.specs.declared.cut.Place.{Place}
-use Rattle.macroblock.specs.declared.cut.Sides.{Sides}
+use Rattle.basics.specs.declared.marks.Sides.{Sides}
 use Rattle.macroblock.specs.declared.cut.Spot.{Spot}
 use Rattle.macroblock.specs.Kinds.{residual4x4, residual8x8, cutFor}
 use Rattle.macroblock.specs.Rules.{used, lastMode, permittedFor}

@@ -1,15 +1,13 @@
--- `picture::rebuild` meets its contract: the rules before the neighbours, then 5, then the macroblock call, which finds room and whose other rules are those
--- of the record; an accepted call then marks the map and counts. Demand 3 is `any-order`. Assumes nothing.
+-- `picture::rebuild` meets its contract: the first rules, then 6, 7 and 5 where a neighbour is undone, then the macroblock call, which finds room and whose
+-- other rules are those of the record; an accepted call then marks the map and counts. Demand 3 is `any-order`. Assumes nothing.
 use mathlib.Core.Path.{_≡_, refl, sym, ap, _∙_}
 use mathlib.Core.Bool.{Bool, true}
 use mathlib.Core.List.{List}
 use Prim.Native.Nat.{ℕ, _≤_, _<_}
 use native.Mathlib.Omega.{arith}
 use lib.ListN.{length}
-use borrow.Author.Tests.{not-true, not-false}
 use Rattle.laws.specs.Answer.{answer, written}
 use Rattle.laws.proofs.Answers.{put, refused}
-use Rattle.maps.specs.Done.{allSettled}
 use Rattle.maps.specs.Neighbours.{Side, marksOf}
 use Rattle.maps.specs.Progress.{progressOf}
 use Rattle.maps.specs.Size.{total}
@@ -17,10 +15,12 @@ use Rattle.maps.proofs.Beside.{marks-at}
 use Rattle.maps.proofs.Sizes.{total-most, address-inside}
 use Rattle.macroblock.specs.Kinds.{recordOf, lumaSquare, cbSquare, crSquare}
 use Rattle.macroblock.specs.Rules.{listsGood}
-use Rattle.calls.specs.Rebuild.{Call, call, Lent, lent, here, marks, recordRules, earlier}
+use Rattle.waits.specs.Waits.{waits}
+use Rattle.calls.specs.Rebuild.{Call, call, Lent, lent, here, marks, recordRules, first}
+use Rattle.calls.specs.inner.Waiting.{waitingAnswer}
 use Rattle.calls.proofs.AnyOrder.{any-order}
-use Rattle.calls.proofs.Rebuilt.{refused-early, refused-5, refused-late, taken, lent-same, lent-rebuilt}
-use Rattle.calls.proofs.Rules.{Passed, passed-is, readyNow}
+use Rattle.calls.proofs.Rebuilt.{refused-first, refused-next, refused-late, taken, lent-same, lent-rebuilt}
+use Rattle.calls.proofs.Rules.{Passed, passed-is, readyNow, waiting, waiting-ready}
 use Rattle.calls.proofs.Squares.{by-macroblock}
 use borrow.Author.Needs.{needs}
 use Rattle.picture.proofs.rebuild.Statement.{statement}
@@ -35,18 +35,18 @@ given s =
 abbrev held : tie.Start → Lent
 held s = let a = s .args in lent (a .luma .now) (a .cb .now) (a .cr .now) (a .done .now) (progressOf (a .progress .now))
 
--- the ways back: from the first refusals and from where they are ruled out; from the marks, from where 5 is ruled out, and from where the macroblock call has
+-- the ways back: from the first refusals and from where they are ruled out; from the marks, from where 6, 7 and 5 are, and from where the macroblock call has
 -- answered
-abbrev first : tie.After-refuse → tie.Start
-first c = c .before .before .before .before .before .before .before .before .before .before .before .before .before .before
+abbrev begin : tie.After-refuse → tie.Start
+begin c = c .before .before .before .before .before .before .before .before .before .before .before .before .before .before
 
 abbrev start : tie.Else1 → tie.Start
-start c = first (c .before)
+start c = begin (c .before)
 
 abbrev ruled-out : tie.After-marks-of → tie.Else1
 ruled-out c = c .before
 
-abbrev looked : tie.After-ready → tie.After-marks-of
+abbrev looked : tie.After-refuse-waiting → tie.After-marks-of
 looked c = c .before .before
 
 abbrev tested : tie.Else2 → tie.Else1
@@ -59,14 +59,14 @@ abbrev called : tie.Else3 → tie.After-rebuild
 called c = c .before .before .before .before .before .before .before
 
 -- the record's lists are as long as the test says
-long : (c : tie.After-refuse) → let a = first c .args in listsGood (recordOf (a .kind) (a .modes .now) (a .chroma-mode) (a .numbers .now)) ≡ c .before .before .before .before .before .both .result
+long : (c : tie.After-refuse) → let a = begin c .args in listsGood (recordOf (a .kind) (a .modes .now) (a .chroma-mode) (a .numbers .now)) ≡ c .before .before .before .before .before .both .result
 unfolding listsGood
 long c = sym (c .before .before .before .before .before .both .ensures)
 
-early : (c : tie.After-refuse) → c .refuse .result ≡ earlier (given (first c)) (held (first c))
-early c = let a = first c .args in c .refuse .ensures (recordOf (a .kind) (a .modes .now) (a .chroma-mode) (a .numbers .now)) (long c)
+early : (c : tie.After-refuse) → c .refuse .result ≡ first (given (begin c)) (held (begin c))
+early c = let a = begin c .args in c .refuse .ensures (recordOf (a .kind) (a .modes .now) (a .chroma-mode) (a .numbers .now)) (long c)
 
-ok-early : (c : tie.Else1) → earlier (given (start c)) (held (start c)) ≡ 0
+ok-early : (c : tie.Else1) → first (given (start c)) (held (start c)) ≡ 0
 ok-early c = sym (early (c .before)) ∙ c .if1 .left
 
 passed : (c : tie.Else1) → Passed (given (start c)) (held (start c))
@@ -76,17 +76,20 @@ passed c = passed-is (given (start c)) (held (start c)) (ok-early c)
 within : (c : tie.Else1) → let a = start c .args in (here (given (start c)) < total (a .spot .w) (a .spot .h)) × (total (a .spot .w) (a .spot .h) ≤ 8160)
 within c = let a = start c .args in (address-inside (a .spot .w) (a .spot .h) (a .spot .x) (a .spot .y) (passed c .place), total-most (a .spot .w) (a .spot .h) (passed c .size))
 
--- the marks are the picture's, and so `ready` tells whether the call is
+-- the marks are the picture's, and so the answer after them is that of 6, 7 and 5
 marks-right : (c : tie.After-marks-of) → marksOf (c .marks-of .result) ≡ marks (given (start (ruled-out c)))
 marks-right c =
     let a = start (ruled-out c) .args in let g = passed (ruled-out c) in
     c .marks-of .ensures ∙ marks-at (a .spot .w) (a .spot .h) (a .slices .now) (a .spot .x) (a .spot .y) (g .size) (g .room .slices-long) (g .place)
 
-ready-is : (c : tie.After-ready) → let s = start (ruled-out (looked c)) in c .ready .result ≡ readyNow (given s) (held s)
-ready-is c = let a = start (ruled-out (looked c)) .args in c .ready .ensures ∙ ap (λ m. allSettled (a .spot .w) (a .spot .x) (a .spot .y) m (a .done .now)) (marks-right (looked c))
+waiting-is : (c : tie.After-refuse-waiting) → let s = start (ruled-out (looked c)) in c .refuse-waiting .result ≡ waiting (given s) (held s)
+waiting-is c =
+    let a = start (ruled-out (looked c)) .args in
+    let r = recordOf (a .kind) (a .modes .now) (a .chroma-mode) (a .numbers .now) in
+    c .refuse-waiting .ensures ∙ ap (λ m. waitingAnswer (a .spot .w) (a .spot .x) (a .spot .y) m (waits m r) r (a .done .now)) (marks-right (looked c))
 
 ok-ready : (c : tie.Else2) → readyNow (given (start (tested c))) (held (start (tested c))) ≡ true
-ok-ready c = sym (ready-is (c .before)) ∙ not-false _ (c .if2 .left)
+ok-ready c = waiting-ready (given (start (tested c))) (held (start (tested c))) (sym (waiting-is (c .before)) ∙ c .if2 .left)
 
 -- the macroblock call's answer is this call's
 answered : (c : tie.After-rebuild) → c .rebuild .result ≡ answer (recordRules (given (start (tested (asked c)))))
@@ -103,12 +106,12 @@ new : {r : ℕ} {z : List ℕ} (l : List ℕ) (f : (Side → Bool) → List ℕ)
 new l f {m} h n e = e ∙ put l (f m) n ∙ ap f h
 
 returns : tie.Need-returns
-returns c = let s = first (c .before) in (refused-early (given s) (held s) (early (c .before)) (c .if1 .taken), any-order)
+returns c = let s = begin (c .before) in (refused-first (given s) (held s) (early (c .before)) (c .if1 .taken), any-order)
 
 returns-2 : tie.Need-returns-2
 returns-2 c =
     let e = ruled-out (looked (c .before)) in
-    (refused-5 (given (start e)) (held (start e)) (ok-early e) (sym (ready-is (c .before)) ∙ not-true _ (c .if2 .taken)), any-order)
+    (refused-next (given (start e)) (held (start e)) (ok-early e) (waiting-is (c .before)) (c .if2 .taken), any-order)
 
 returns-3 : tie.Need-returns-3
 returns-3 c =
@@ -187,8 +190,8 @@ same-length-4 c = search needs
 marks-of-requires : tie.Need-marks-of-requires
 marks-of-requires c κs = search needs
 
-ready-requires : tie.Need-ready-requires
-ready-requires c κs = search needs
+refuse-waiting-requires : tie.Need-refuse-waiting-requires
+refuse-waiting-requires c κs = search needs
 
 same-length-5 : tie.Need-same-length-5
 same-length-5 c = search needs
@@ -236,6 +239,6 @@ pub rebuild-spec : {M : Type 1} → statement M
 rebuild-spec =
     tie.close
     (tie.spec element-copy-out-here element-copy-out-accepted both-requires refuse-requires same-length same-length-2 same-length-3
-    same-length-4 returns marks-of-requires ready-requires same-length-5 same-length-6 same-length-7 same-length-8 returns-2
+    same-length-4 returns marks-of-requires refuse-waiting-requires same-length-5 same-length-6 same-length-7 same-length-8 returns-2
     rebuild-requires same-length-9 same-length-10 same-length-11 same-length-12 returns-3 mul-here add-here cast-done
     slice-write-done mul-accepted accepted-requires same-length-13 same-length-14 same-length-15 same-length-16 returns-4)

@@ -8,7 +8,7 @@ use borrow.Author.Tests.{not-true, not-false}
 use Rattle.maps.specs.Size.{total, address, sizeOk, placeOk}
 use Rattle.maps.proofs.Sizes.{size-is, total-most, place-is, address-inside}
 use Rattle.calls.specs.Planes.{roomOk}
-use Rattle.calls.specs.Rebuild.{earlierRules}
+use Rattle.calls.specs.Rebuild.{firstRules}
 use borrow.Author.Needs.{needs}
 use Rattle.picture.proofs.refuse.Statement.{statement}
 use Rattle.picture.proofs.refuse.Tie as tie
@@ -42,24 +42,24 @@ within c =
     (address-inside (a .spot .w) (a .spot .h) (a .spot .x) (a .spot .y) (place-is (a .spot .w) (a .spot .h) (a .spot .x) (a .spot .y) (ok-place c)), total-most (a .spot .w) (a .spot .h) (size-is (a .spot .w) (a .spot .h) (ok-size (sized c))))
 
 returns : tie.Need-returns
-unfolding earlierRules
+unfolding firstRules
 returns c m good = rw (sym (c .before .size-ok .ensures) ∙ not-true _ (c .if1 .taken))
 
 room-ok-requires : tie.Need-room-ok-requires
 room-ok-requires c κs = size-is _ _ (ok-size (c .before .before))
 
 returns-2 : tie.Need-returns-2
-unfolding earlierRules roomOk
+unfolding firstRules roomOk
 returns-2 c m good = rw (ok-size (asked (c .before)), sym (c .before .room-ok .ensures) ∙ not-true _ (c .if2 .taken))
 
 returns-3 : tie.Need-returns-3
-unfolding earlierRules roomOk
+unfolding firstRules roomOk
 returns-3 c m good =
     let d = c .before in
     rw (ok-size (asked (d .before)), sym (d .before .room-ok .ensures) ∙ ok-room d, good ∙ not-true _ (c .if3 .taken))
 
 returns-4 : tie.Need-returns-4
-unfolding earlierRules roomOk
+unfolding firstRules roomOk
 returns-4 c m good =
     let e = c .before .before in
     let d = e .before in
@@ -72,7 +72,7 @@ add-here : tie.Need-add-here
 add-here c = omega (arith, within (c .before .before))
 
 returns-5 : tie.Need-returns-5
-unfolding earlierRules roomOk
+unfolding firstRules roomOk
 returns-5 c m good =
     let f = c .before .before .before .before in
     let e = f .before .before in
@@ -80,7 +80,7 @@ returns-5 c m good =
     rw (ok-size (asked (d .before)), sym (d .before .room-ok .ensures) ∙ ok-room d, good ∙ ok-lists e, ok-place f, sym (c .before .is-done .ensures) ∙ c .if5 .taken)
 
 returns-6 : tie.Need-returns-6
-unfolding earlierRules roomOk
+unfolding firstRules roomOk
 returns-6 c m good =
     let f = c .before .before .before .before in
     let e = f .before .before in

@@ -4,13 +4,15 @@
 //! Every limit is drawn on both sides, every list in its own length, one short, one long and empty, and guards stand around every buffer. How
 //! often each answer was given is counted: an answer that a call can give and has not given is a failure too, and so is one that a family of blocks
 //! near the ends of the range gives seldom. What the Rust says of a 4x4 or 8x8 case is also due, transposed, of the case turned on its side.
+//! What a mode reads, and so what a macroblock waits for, was found by trial with the Rust's predictors (`oracle::reads`); calls that are accepted beside an
+//! undone neighbour are counted, and a run without them is a failure.
 use harness::ends::{at_an_end, bring_in, past_an_end};
-use harness::{good_record, good_records, shuffled, slice_map, Guarded, Memory, Random, Record};
+use harness::{block_marks, good_record, good_records, shuffled, slice_map, Guarded, Memory, Random, Record};
 use jiwarbend::block;
 use jiwarbend::sys::*;
 use jiwarbend::turned::{Case, Case4x4, Case8x8};
 use oracle::rules::{self, Marks, Square};
-use oracle::{driver, halfway, predict};
+use oracle::{driver, halfway, predict, reads};
 use std::collections::BTreeMap;
 
 struct Report {
@@ -561,6 +563,54 @@ fn small(report: &mut Report) {
     });
 }
 
+/// The samples around a block as the predictors take them: above and above-right, left, and the corner.
+type Around<const T: usize, const L: usize> = ([u8; T], [u8; L], u8);
+
+/// Above-right that is not available is the last sample above, repeated.
+fn completed<const T: usize, const L: usize>((mut top, left, corner): Around<T, L>, right: bool) -> Around<T, L> {
+    if !right {
+        let last = top[L - 1];
+        top[L..].fill(last);
+    }
+    (top, left, corner)
+}
+
+/// The same samples in these groups, and any others in the rest.
+fn others<const T: usize, const L: usize>(random: &mut Random, groups: u8, (top, left, corner): Around<T, L>) -> Around<T, L> {
+    let mut one = |group: u8, v: u8| if groups & group == 0 { random.byte() } else { v };
+    let top = std::array::from_fn(|k| one(if k < L { reads::ABOVE } else { reads::ABOVE_RIGHT }, top[k]));
+    (top, std::array::from_fn(|k| one(reads::LEFT, left[k])), one(reads::CORNER, corner))
+}
+
+/// What a mode reads: every mode number with every set of marks against what was found by trial, and neighbourhoods that differ in all that is not read
+/// against the predictor itself, which must give one block for both.
+fn reads_of<const T: usize, const L: usize, const B: usize>(
+    report: &mut Report,
+    name: &'static str,
+    port: impl Fn(u8, Marks, bool) -> u8,
+    rust: impl Fn(u8, Marks, bool) -> u8,
+    export: Predictor,
+) {
+    let rounds = report.many(2_000);
+    let mut routine = report.routine(name, &[0]);
+    let mut random = Random::new(14);
+    for mode in 0..=255 {
+        for (m, right) in Marks::all().flat_map(|m| [(m, false), (m, true)]) {
+            let read = port(mode, m, right);
+            routine.same(read, rust(mode, m, right), || format!("mode {mode}, {m:?}, above-right {right}"));
+            for _ in 0..if mode < 9 { rounds } else { 1 } {
+                let (mut top, mut left) = ([0; T], [0; L]);
+                random.samples(&mut top);
+                random.samples(&mut left);
+                let one = completed((top, left, random.byte()), right);
+                let other = completed(others(&mut random, read, one), right);
+                let [one, other] = [one, other].map(|(top, left, corner)| predicted(export, mode, m, &top, &left, corner, B));
+                routine.same(other, one, || format!("mode {mode}, {m:?}, above-right {right}: it reads {read} and shows another group"));
+            }
+        }
+    }
+}
+
 type Inverse = unsafe extern "C" fn(*const i32, usize, *mut i32, usize) -> u32;
 
 /// Any number in range.
@@ -768,8 +818,8 @@ impl Call {
         (1..10).contains(&self.memory.w) && (1..10).contains(&self.memory.h)
     }
 
-    /// Compares both sides: the answer, all that was lent with the guards around it, and the record's lists.
-    fn compare(&self, routine: &mut Routine) {
+    /// Compares both sides: the answer, which it gives back, all that was lent with the guards around it, and the record's lists.
+    fn compare(&self, routine: &mut Routine) -> u32 {
         let (mut modes, mut numbers) = (Guarded::new(&self.record.modes), Guarded::new(&self.record.numbers));
         modes.resize(self.modes);
         numbers.resize(self.numbers);
@@ -795,6 +845,7 @@ impl Call {
                 r.kind
             )
         });
+        said
     }
 }
 
@@ -902,7 +953,9 @@ fn rebuild(report: &mut Report) {
     // Sizes at their limits with memory of that size, so that nothing else is wrong with them.
     for size in [(120, 1), (121, 1), (1, 68), (1, 69), (119, 2), (2, 67), (120, 2), (121, 2)] {
         for kind in 0..3 {
-            (0..4).for_each(|_| Call::new(&mut random, size, 0, kind).compare(&mut routine));
+            (0..4).for_each(|_| {
+                Call::new(&mut random, size, 0, kind).compare(&mut routine);
+            });
         }
     }
     for bend in BENDS {
@@ -974,7 +1027,7 @@ fn pictures(report: &mut Report) {
                 if random.one_in(8) {
                     let kept = port.clone();
                     let bad = port.port(x, y, 3 + random.byte() % 8, &r.modes, r.chroma_mode, &r.numbers);
-                    steady &= (bad == 5 || bad == 6) && port == kept;
+                    steady &= bad == 6 && port == kept;
                     let (mut past, plane) = (r.clone(), random.below(3));
                     let block = past.block_of(&mut random, plane);
                     past_an_end(&mut random, block);
@@ -996,6 +1049,134 @@ fn pictures(report: &mut Report) {
     }
 }
 
+/// Whether an available neighbour of the macroblock is undone, whatever its record reads.
+fn beside_undone(memory: &mut Memory, x: u32, y: u32) -> bool {
+    let (w, x, y) = (memory.w as usize, x as usize, y as usize);
+    let n = driver::near(w, memory.slices.inner(), x, y);
+    let done = memory.done.inner();
+    let at = y * w + x;
+    (n.a && done[at - 1] != 1) || (n.b && done[at - w] != 1) || (n.c && done[at - w + 1] != 1) || (n.d && done[at - w - 1] != 1)
+}
+
+/// Says how many calls were accepted beside an undone neighbour. There must be some: they are what waiting only for what is read is for.
+fn judge_early(early: u64, routine: &mut Routine) {
+    println!("  {early} calls were accepted beside an available neighbour that was not done");
+    if early == 0 {
+        routine.lacks += ", NONE BESIDE AN UNDONE NEIGHBOUR";
+    }
+}
+
+/// Calls for the middle of the second row of 3 by 2 macroblocks, with every set of available neighbours and every set of undone ones. Some records have a mode
+/// that is unknown or not permitted, or a number out of range.
+fn rebuild_waiting(report: &mut Report) {
+    let rounds = report.many(2_000) / 4;
+    for kind in 0..3 {
+        let mut routine = report.routine(format!("rebuild, waiting, kind {kind}"), &[0, 5, 6, 7, 8]);
+        let mut random = Random::new(15 + u64::from(kind));
+        let mut early = 0;
+        for (available, undone) in (0..16).flat_map(|available| (0..16).map(move |undone| (available, undone))) {
+            for _ in 0..rounds {
+                let mut slices = vec![7; 6];
+                let mut done = vec![1, 1, 1, 1, random.pick(&[0, 2, 255]), random.pick(&[0, 1])];
+                for (k, address) in [3, 1, 2, 0].into_iter().enumerate() {
+                    slices[address] = if available >> k & 1 == 1 { 7 } else { random.pick(&[6, 8, 65535]) };
+                    done[address] = if undone >> k & 1 == 1 { random.pick(&[0, 2, 255]) } else { 1 };
+                }
+                let n = driver::near(3, &slices, 1, 1);
+                let mut memory = Memory::new(&mut random, 3, 2, slices, 0);
+                memory.done = Guarded::new(&done);
+                let record = if random.one_in(2) { one_way(&mut random, kind, n) } else { good_record(&mut random, kind, n) };
+                let mut call = Call { memory, x: 1, y: 1, record, modes: 16, numbers: 384 };
+                match random.below(8) {
+                    0 => call.record.modes[random.below([16, 4, 1][kind as usize])] = random.below(10) as u8,
+                    1 => call.record.chroma_mode = random.below(5) as u8,
+                    2 => call.record.numbers[random.below(384)] = random.pick(&LIMITS),
+                    _ => (),
+                }
+                let beside = beside_undone(&mut call.memory, 1, 1);
+                early += u64::from(call.compare(&mut routine) == 0 && beside);
+            }
+        }
+        judge_early(early, &mut routine);
+    }
+}
+
+/// An acceptable record whose modes are vertical, or horizontal, as far as the neighbours permit it, and DC elsewhere: most of its blocks read one side.
+fn one_way(random: &mut Random, kind: u8, n: driver::Near) -> Record {
+    let mut r = good_record(random, kind, n);
+    let down = random.one_in(2);
+    for (mode, m) in r.modes.iter_mut().zip(block_marks(kind, n)) {
+        *mode = match down {
+            true if m.above => 0,
+            false if m.left => 1,
+            _ => 2,
+        };
+    }
+    r.chroma_mode = match down {
+        true if n.b => 2,
+        false if n.a => 1,
+        _ => 0,
+    };
+    r
+}
+
+/// Whole pictures, offered at random to both sides call by call: answers and all that was lent are equal after each of them, and in the end the samples are
+/// those of raster order. Now and then a record is offered that is refused for its modes, done neighbours or not.
+fn pictures_early(report: &mut Report) {
+    let rounds = report.many(2_000);
+    let mut routine = report.routine("pictures, waiting for reads", &[0, 5, 6, 7]);
+    let mut random = Random::new(16);
+    let (mut early, mut early_pictures) = (0, 0);
+    for round in 0..rounds {
+        let (w, h) = (1 + random.below(9) as u32, 1 + random.below(8) as u32);
+        let slices = slice_map(&mut random, w, h);
+        // Any modes, or in every second picture modes of which most read one side.
+        let mut records = good_records(&mut random, w, h, &slices, |random| random.below(3) as u8);
+        if round % 2 == 1 {
+            for (a, r) in records.iter_mut().enumerate() {
+                let n = driver::near(w as usize, &slices, a % w as usize, a / w as usize);
+                *r = one_way(&mut random, r.kind, n);
+            }
+        }
+        let pad = random.below(3);
+        let mut port = Memory::new(&mut random, w, h, slices, pad);
+        let (mut wanted, mut raster) = (port.clone(), port.clone());
+        for (a, r) in records.iter().enumerate() {
+            let said = raster.rust(a as u32 % w, a as u32 / w, r.kind, &r.modes, r.chroma_mode, &r.numbers);
+            assert_eq!(said, 0, "a good record is taken in raster order");
+        }
+        let (before, mut equal) = (early, true);
+        let mut left: Vec<usize> = (0..records.len()).collect();
+        while equal && !left.is_empty() {
+            let k = random.below(left.len());
+            let a = left[k];
+            let (x, y) = (a as u32 % w, a as u32 / w);
+            let mut r = records[a].clone();
+            if random.one_in(8) {
+                let n = driver::near(w as usize, wanted.slices.inner(), x as usize, y as usize);
+                match random.below(3) {
+                    0 => r.kind = 3,
+                    1 => r.modes[0] = 9,
+                    _ => r.chroma_mode = if n.a && n.b && n.d { 4 } else { 3 },
+                }
+            }
+            let beside = beside_undone(&mut wanted, x, y);
+            let answer = port.port(x, y, r.kind, &r.modes, r.chroma_mode, &r.numbers);
+            let said = wanted.rust(x, y, r.kind, &r.modes, r.chroma_mode, &r.numbers);
+            equal = (answer, &port) == (said, &wanted);
+            routine.told((answer, &port), (said, &wanted), || format!("picture {round}, ({x}, {y}) of {w} by {h}, {} left", left.len()));
+            if said == 0 {
+                early += u64::from(beside);
+                left.swap_remove(k);
+            }
+        }
+        early_pictures += u64::from(early > before);
+        routine.same((&port.planes, &port.done), (&raster.planes, &raster.done), || format!("picture {round}, {w} by {h}, in the end"));
+    }
+    println!("  {early_pictures} of {rounds} pictures came in an order with such calls");
+    judge_early(early, &mut routine);
+}
+
 fn main() {
     // A share of the random cases in percent: the whole run takes some minutes under an emulator.
     let scale = std::env::args().nth(1).map_or(100, |s| s.parse().expect("a share in percent"));
@@ -1011,6 +1192,14 @@ fn main() {
     mean(&mut report, "chroma8x8_dc", jiwarbend_chroma8x8_dc, predict::chroma8x8_dc);
     from_plane(&mut report, "i16x16_luma_pred", 16, jiwarbend_i16x16_luma_pred, rules::i16x16_luma_pred);
     from_plane(&mut report, "chroma8x8_plane_pred", 8, jiwarbend_chroma8x8_plane_pred, rules::chroma8x8_plane_pred);
+    let port = |mode, m: Marks, right| unsafe { jiwarbend_reads_4x4(mode, m.above, m.left, m.corner, right) };
+    reads_of::<8, 4, 16>(&mut report, "reads_4x4", port, reads::reads_4x4, jiwarbend_intra4x4_pred);
+    let port = |mode, m: Marks, right| unsafe { jiwarbend_reads_8x8(mode, m.above, m.left, m.corner, right) };
+    reads_of::<16, 8, 64>(&mut report, "reads_8x8", port, reads::reads_8x8, jiwarbend_intra8x8_pred);
+    let port = |mode, m: Marks, _| unsafe { jiwarbend_reads_16x16(mode, m.above, m.left, m.corner) };
+    reads_of::<16, 16, 256>(&mut report, "reads_16x16", port, |mode, m, _| reads::reads_16x16(mode, m), jiwarbend_luma16x16_pred);
+    let port = |mode, m: Marks, _| unsafe { jiwarbend_reads_chroma(mode, m.above, m.left, m.corner) };
+    reads_of::<8, 8, 64>(&mut report, "reads_chroma", port, |mode, m, _| reads::reads_chroma(mode, m), jiwarbend_chroma8x8_pred);
     inverse(&mut report, "inverse_4x4", jiwarbend_inverse_4x4, rules::inverse_4x4);
     inverse(&mut report, "inverse_8x8", jiwarbend_inverse_8x8, rules::inverse_8x8);
     sums(&mut report, "reconstruct_4x4", First::Coefficients, jiwarbend_reconstruct_4x4, rules::reconstruct_4x4);
@@ -1041,7 +1230,9 @@ fn main() {
     start(&mut report);
     rebuild(&mut report);
     rebuild_at_an_end(&mut report);
+    rebuild_waiting(&mut report);
     pictures(&mut report);
+    pictures_early(&mut report);
     println!("\nall calls, by answer:");
     for (answer, times) in report.seen.iter().enumerate() {
         println!("  {answer} {times:>9}");

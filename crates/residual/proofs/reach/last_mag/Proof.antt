@@ -2,7 +2,6 @@
 use mathlib.Core.Path.{sym, ap, _∙_}
 use Prim.Native.Nat.{_+_}
 use native.Mathlib.Omega.{arith}
-use lib.Signed.{mag}
 use Rattle.residual.specs.Numbers.{lastMag}
 use Rattle.residual.proofs.Far.{negative, positive, last-below}
 use Rattle.residual.proofs.reach.last_mag.Statement.{statement}

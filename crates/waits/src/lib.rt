@@ -1,0 +1,139 @@
+// The neighbour macroblocks that a record waits for: those that hold samples which one of its blocks reads.
+ghost use mathlib.Core.Path.{_≡_};
+ghost use mathlib.Core.Bool.{_&&_, _||_};
+ghost use mathlib.Core.List.{List};
+ghost use lib.IntN.{ℤ};
+ghost use lib.ListN.{getD};
+ghost use Rattle.maps.specs.Neighbours.{marksOf};
+ghost use Rattle.macroblock.specs.Kinds.{recordOf, cutFor};
+ghost use Rattle.macroblock.specs.inner.Blocks.{BlockOf};
+ghost use Rattle.reads.specs.Exactly.{chroma8x8};
+ghost use Rattle.reads.specs.Groups.{groupsOf};
+ghost use Rattle.waits.specs.Narrow.{AllNarrow};
+ghost use Rattle.waits.specs.Waits.{holdsOne, squareReads, predictorFor, waits};
+ghost use Rattle.waits.specs.inner.Holders.{holdersAt};
+use basics::marks::Sides;
+use macroblock::cut::across;
+use macroblock::cut::sides_at;
+use macroblock::rules::used_modes;
+use macroblock::scan_xy::scan_column;
+use macroblock::scan_xy::scan_row;
+use maps::neighbours::Marks;
+use reads::groups::groups_4x4;
+use reads::groups::groups_8x8;
+use reads::groups::groups_16x16;
+use reads::groups::groups_chroma;
+
+// The neighbours that a record with these parts waits for, where these are available: if its modes are permitted it depends on no other. A mode that is
+// not there counts as 0.
+pub fn waited(marks: Marks, kind: u8, modes: &[u8], chroma_mode: u8) -> Marks
+    ensures { λ r. ⌜ ((numbers : List ℤ) → marksOf r ≡ waits (marksOf marks) (recordOf kind (now (modes .entry)) «chroma_mode» numbers)) ⌝ }
+    ensures { λ _. ⌜ AllNarrow ⌝ }
+{
+    join(
+        luma_waited(marks, kind, modes),
+        chroma_waited(marks, chroma_mode),
+    )
+}
+
+// Those that hold what a luma block reads.
+fn luma_waited(marks: Marks, kind: u8, modes: &[u8]) -> Marks
+    ensures { λ r. ⌜ marksOf r ≡ squareReads (predictorFor kind) (cutFor kind .across) (marksOf marks) (λ k. getD (now (modes .entry)) k 0) ⌝ }
+{
+    let n = used_modes(kind);
+    let m = across(kind);
+    let mut all = Marks {
+        a: false,
+        b: false,
+        c: false,
+        d: false,
+    };
+    let mut k = 0;
+    while k < n {
+        let read = groups_for(kind, mode_at(modes, k), sides_at(kind, k, marks));
+        all = join(all, holders_of(k, m, read));
+        k += 1;
+    }
+    all
+}
+
+// Those that hold what a chroma block reads. Its sides are those of a luma square that is one block.
+fn chroma_waited(marks: Marks, mode: u8) -> Marks
+    ensures { λ r. ⌜ marksOf r ≡ squareReads chroma8x8 1 (marksOf marks) (λ _. mode) ⌝ }
+{
+    holders_of(0, 1, groups_chroma(mode, sides_at(2, 0, marks)))
+}
+
+// The groups that a luma block of a kind reads.
+fn groups_for(kind: u8, mode: u8, sides: Sides) -> Sides
+    ensures { λ r. ⌜ groupsOf r ≡ predictorFor kind .reads (groupsOf sides) mode ⌝ }
+{
+    if kind == 0 {
+        groups_4x4(mode, sides)
+    } else if kind == 1 {
+        groups_8x8(mode, sides)
+    } else {
+        groups_16x16(mode, sides)
+    }
+}
+
+fn mode_at(modes: &[u8], k: usize) -> u8
+    ensures { λ r. ⌜ r ≡ getD (now (modes .entry)) k 0 ⌝ }
+{
+    if k < modes.len() { modes[k] } else { 0 }
+}
+
+// The neighbours that hold one of the groups of block k, of m across, that are read: A and D what lies left of the first column, D, B and C what lies above
+// the first row.
+fn holders_of(k: usize, m: usize, read: Sides) -> Marks
+    requires { ⌜ BlockOf m k ⌝ }
+    ensures { λ r. ⌜ marksOf r ≡ holdsOne m k (groupsOf read) ⌝ }
+{
+    let column = scan_column(k) as usize;
+    let row = scan_row(k) as usize;
+    holders_at(column == 0, row == 0, column + 1 == m, read)
+}
+
+// The same by whether the block stands in the first column, in the first row and in the last column.
+fn holders_at(first_column: bool, first_row: bool, last_column: bool, read: Sides) -> Marks
+    ensures { λ r. ⌜ marksOf r ≡ holdersAt «first_column» «first_row» «last_column» (groupsOf read) ⌝ }
+{
+    let in_a = either(read.left, both(!first_row, read.corner));
+    let in_b = either(
+        read.above,
+        either(
+            both(!first_column, read.corner),
+            both(!last_column, read.above_right),
+        ),
+    );
+    Marks {
+        a: both(first_column, in_a),
+        b: both(first_row, in_b),
+        c: both(both(first_row, last_column), read.above_right),
+        d: both(both(first_row, first_column), read.corner),
+    }
+}
+
+// The marks of both.
+fn join(p: Marks, q: Marks) -> Marks
+    ensures { λ r. ⌜ marksOf r ≡ (λ d. marksOf p d || marksOf q d) ⌝ }
+{
+    Marks {
+        a: either(p.a, q.a),
+        b: either(p.b, q.b),
+        c: either(p.c, q.c),
+        d: either(p.d, q.d),
+    }
+}
+
+fn both(p: bool, q: bool) -> bool
+    ensures { λ r. ⌜ r ≡ (p && q) ⌝ }
+{
+    if p { q } else { false }
+}
+
+fn either(p: bool, q: bool) -> bool
+    ensures { λ r. ⌜ r ≡ (p || q) ⌝ }
+{
+    if p { true } else { q }
+}
