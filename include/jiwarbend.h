@@ -34,8 +34,8 @@
 #define JIWARBEND_H
 
 #define JIWARBEND_VERSION_MAJOR 0
-#define JIWARBEND_VERSION_MINOR 4
-#define JIWARBEND_VERSION_PATCH 1
+#define JIWARBEND_VERSION_MINOR 5
+#define JIWARBEND_VERSION_PATCH 0
 
 #include <stdbool.h>
 #include <stddef.h>

@@ -19,7 +19,7 @@ use Rattle.calls.specs.Run.{Picture, totalOf, offer, AllAcceptable, Rest
 use Rattle.calls.specs.Run.Event.{offers, starts}
 use Rattle.calls.specs.AnyOrder.{AnyOrder}
 use Rattle.calls.proofs.OnePicture.{view, fair, spares, step, offer-here, Depends, carries, bytes, Good, begins, planes-kept, awaits-smaller, laws, told, acceptable}
-use Rattle.calls.proofs.Rules.{not-ready-when, never-first}
+use Rattle.calls.proofs.Rules.{waits-available, not-ready-when, never-first}
 
 -- starts that are refused leave everything
 same-run : (es : List Event) (s : Lent) → StartsRefused es s → passed es s ≡ play driver (callsOf es) s
@@ -117,6 +117,7 @@ any-order g = record {
   full = λ cs s l. count-full (fair (totalOf g)) cs (begins g s l);
   same-run = same-run;
   not-ready = not-ready-when;
+  available-only = waits-available;
   first-undone = never-first;
   some-first = λ cs s. some-first (run g cs s .done) (totalOf g);
   first-accepted = λ cs s l. first g s l cs;

@@ -9,7 +9,7 @@ use Rattle.order.specs.Driver.{play, answers}
 use Rattle.order.specs.Order.{Alike, Done, AllDone, First, Permitted, undoneFrom, ones, raster}
 use Rattle.maps.specs.Neighbours.{Side, beside}
 use Rattle.calls.specs.Planes.{Plane}
-use Rattle.calls.specs.Rebuild.{Call, Lent, here, waitsFor, Acceptable, answerTo, earlier}
+use Rattle.calls.specs.Rebuild.{Call, Lent, here, marks, waitsFor, Acceptable, answerTo, earlier}
 use Rattle.calls.specs.Run.{Picture, totalOf, offer, AllAcceptable, RestAcceptable, Awaits, Lends, decoded, Location, sampleAt, Region, InPicture}
 use Rattle.calls.specs.Run.{driver, started, run, Own, rest, Event, passed, callsOf, StartsRefused}
 
@@ -33,9 +33,11 @@ pub record AnyOrder (g : Picture) : Type 0 where
   -- starts that are refused between the calls change nothing
   pub same-run : (es : List Event) (s : Lent) → StartsRefused es s → passed es s ≡ play driver (callsOf es) s
   -- ---- never stuck
-  -- a call that passes the earlier checks is refused as not ready exactly when a neighbour that it waits for, one that holds what its record reads, is undone
+  -- a call that passes the earlier checks is refused as not ready exactly when a neighbour that it waits for, one that holds what its record reads, is undone;
+  -- it waits for available ones only
   pub not-ready : (c : Call) (s : Lent) → earlier c s ≡ 0
       → (answerTo c s ≡ 5) ↔ ((k : Side) × (waitsFor c k ≡ true) × ¬ Done (s .done) (beside (c .width) (c .x) (c .y) k))
+  pub available-only : (c : Call) (k : Side) → waitsFor c k ≡ true → marks c k ≡ true
   -- so the first undone macroblock, by address, never is
   pub first-undone : (c : Call) (s : Lent) → ((b : ℕ) → b < here c → Done (s .done) b) → ¬ (answerTo c s ≡ 5)
   -- after any run, whatever was refused, repeated or abandoned in it: while not all are done there is a first undone macroblock, and its own acceptable

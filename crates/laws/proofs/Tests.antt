@@ -146,7 +146,6 @@ all-at (suc n) f p i h =
 pub all-no : (n : ℕ) (f : ℕ → Bool) (i : ℕ) → i < n → f i ≡ false → allBelow n f ≡ false
 all-no n f i h e = no-from (allBelow n f) (λ g. all-at n f g i h) (λ g. not-both g e)
 
--- the other way: a test that holds at every place
 -- a test that does not hold everywhere fails somewhere
 pub all-fails : (n : ℕ) (f : ℕ → Bool) → allBelow n f ≡ false → (i : ℕ) × (i < n) × (f i ≡ false)
 unfolding allBelow
@@ -157,6 +156,7 @@ all-fails (suc n) f e = go (allBelow n f) e (all-fails n f)
     go true h r = (n, omega arith, h)
     go false h r = let k = r refl in (k .0, omega (arith, k .1), k .2)
 
+-- the other way: a test that holds at every place
 pub all-of : (n : ℕ) (f : ℕ → Bool) → ((i : ℕ) → i < n → f i ≡ true) → allBelow n f ≡ true
 unfolding allBelow
 all-of zero f h = refl

@@ -16,6 +16,7 @@ use super::cut::Spot;
 use super::cut::across;
 use super::cut::sides_of;
 use basics::marks::Sides;
+use basics::tests::both;
 use maps::neighbours::Marks;
 
 // Whether the square of side q at (x, y), and each marked neighbour, lies in a plane of `len` samples.
@@ -43,12 +44,6 @@ pub(crate) fn has_rooms(spot: Spot, luma: usize, cb: usize, cr: usize) -> bool
     let cb = has_room(8, cb, spot.strides.cb, spot.x, spot.y, spot.marks);
     let cr = has_room(8, cr, spot.strides.cr, spot.x, spot.y, spot.marks);
     both(both(luma, cb), cr)
-}
-
-fn both(p: bool, q: bool) -> bool
-    ensures { λ r. ⌜ r ≡ (p && q) ⌝ }
-{
-    if p { q } else { false }
 }
 
 fn implies(p: bool, q: bool) -> bool

@@ -6,7 +6,7 @@ ghost use Rattle.maps.specs.Done.{isDone, allSettled};
 ghost use Rattle.maps.specs.Neighbours.{marksOf};
 ghost use Rattle.maps.specs.Size.{address};
 use super::neighbours::Marks;
-use super::size::both;
+use basics::tests::both;
 
 // Whether the macroblock at an address is done.
 pub fn is_done(done: &[u8], a: usize) -> bool

@@ -6,9 +6,9 @@ ghost use lib.Dec.{eqb};
 ghost use lib.ListN.{length, getD};
 ghost use Rattle.maps.specs.Neighbours.{marksOf, available, mapped, marksAt};
 ghost use Rattle.maps.specs.Size.{address};
-use super::size::both;
 use super::size::place_ok;
 use super::size::size_ok;
+use basics::tests::both;
 
 // The marks of the neighbours: whether A (left), B (above), C (above-right) and D (above-left) are available.
 pub struct Marks {

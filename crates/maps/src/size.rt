@@ -1,7 +1,7 @@
 // Sizes of pictures, and places in them, in macroblocks.
 ghost use mathlib.Core.Path.{_≡_};
-ghost use mathlib.Core.Bool.{_&&_};
 ghost use Rattle.maps.specs.Size.{sizeOk, placeOk};
+use basics::tests::both;
 
 // Where a macroblock stands: the picture's size, and the macroblock's column and row.
 pub struct Spot {
@@ -23,10 +23,4 @@ pub fn place_ok(w: u32, h: u32, x: u32, y: u32) -> bool
     ensures { λ r. ⌜ r ≡ placeOk w h x y ⌝ }
 {
     both(x < w, y < h)
-}
-
-pub(crate) fn both(p: bool, q: bool) -> bool
-    ensures { λ r. ⌜ r ≡ p && q ⌝ }
-{
-    if p { q } else { false }
 }

@@ -10,6 +10,7 @@ ghost use Rattle.calls.specs.AnyOrder.{AnyOrder};
 ghost use Rattle.calls.specs.Rebuild.{call, lent, first, Rebuilds};
 ghost use Rattle.calls.specs.Run.{Picture};
 ghost use Rattle.calls.specs.inner.Waiting.{waitingAnswer};
+use basics::tests::both;
 use macroblock::Strides;
 use macroblock::rules::record_answer;
 use maps::done::is_done;
@@ -21,7 +22,6 @@ use maps::progress::accepted;
 use maps::size::Spot;
 use maps::size::place_ok;
 use maps::size::size_ok;
-use planes::both;
 use planes::room_ok;
 use waits::waited;
 

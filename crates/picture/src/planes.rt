@@ -1,16 +1,10 @@
 // The memory that is lent for a picture.
 ghost use mathlib.Core.Path.{_≡_};
-ghost use mathlib.Core.Bool.{_&&_};
 ghost use Prim.Native.Nat.{_≤_};
 ghost use Rattle.maps.specs.Size.{Size};
 ghost use Rattle.calls.specs.Planes.{three, planeOk, roomOk};
+use basics::tests::both;
 use macroblock::Strides;
-
-pub(crate) fn both(p: bool, q: bool) -> bool
-    ensures { λ r. ⌜ r ≡ p && q ⌝ }
-{
-    if p { q } else { false }
-}
 
 // Whether a plane has a good stride and enough bytes; `side` is a macroblock's.
 fn plane_ok(side: usize, w: usize, h: usize, stride: usize, bytes: usize) -> bool

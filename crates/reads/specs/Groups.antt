@@ -69,7 +69,7 @@ abbrev pub reads4x4 : (Group → Bool) → ℕ → Group → Bool
 reads4x4 marks m g = permittedNxN (marks above) (marks left) (marks corner) m && namedNxN m g && marks g
 
 -- 8.3.2.2.1: of an 8x8 block the formula names filtered samples. The filter takes the corner to the first sample of each side, and to the last sample
--- above the next one on its right; mode 6 alone names samples above, but not the last of them
+-- above the next one on its right; of the modes that name samples above, mode 6 alone does not name the last
 abbrev pub reads8x8 : (Group → Bool) → ℕ → Group → Bool
 reads8x8 marks m above = reads4x4 marks m above
 reads8x8 marks m left = reads4x4 marks m left

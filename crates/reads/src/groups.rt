@@ -1,7 +1,7 @@
 // The groups of samples beside a block that a mode reads where some are marked as available: none where the mode is unknown or not permitted. As four
 // marks, and as one number: 1 above, 2 left, 4 corner, 8 above-right, added up.
 ghost use mathlib.Core.Path.{_≡_};
-ghost use mathlib.Core.Bool.{false, cond, _&&_, _||_};
+ghost use mathlib.Core.Bool.{false, cond, _&&_};
 ghost use Prim.Native.Nat.{_≤_};
 ghost use Rattle.reads.specs.Exactly.{Exactly, luma4x4, luma8x8, luma16x16, chroma8x8};
 ghost use Rattle.reads.specs.Groups.{groupsOf, marked, groupSet, namedNxN};
@@ -10,6 +10,8 @@ use basics::marks::Sides;
 use basics::marks::permits_16x16;
 use basics::marks::permits_chroma;
 use basics::marks::permits_nxn;
+use basics::tests::both;
+use basics::tests::either;
 
 // What a 4x4 luma block reads, as one number.
 pub fn reads_4x4(
@@ -169,16 +171,4 @@ fn number_if(on: bool, n: u8) -> u8
     ensures { λ r. ⌜ (r ≡ cond on n 0) × (r ≤ n) ⌝ }
 {
     if on { n } else { 0 }
-}
-
-fn both(p: bool, q: bool) -> bool
-    ensures { λ r. ⌜ r ≡ (p && q) ⌝ }
-{
-    if p { q } else { false }
-}
-
-fn either(p: bool, q: bool) -> bool
-    ensures { λ r. ⌜ r ≡ (p || q) ⌝ }
-{
-    if p { true } else { q }
 }

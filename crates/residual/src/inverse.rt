@@ -1,6 +1,6 @@
 // The transformation of residual 4x4 blocks (clause 8.5.12.2).
 ghost use mathlib.Core.Path.{_≡_};
-ghost use mathlib.Core.Bool.{true, false, cond, _&&_};
+ghost use mathlib.Core.Bool.{true, false, cond};
 ghost use mathlib.Core.List.{[], _∷_, _++_};
 ghost use Prim.Native.Nat.{_*_, _≤_};
 ghost use lib.Dec.{ltb};
@@ -24,6 +24,7 @@ use super::passes::rows;
 use super::passes::values_in_range;
 use super::reach::any_of;
 use super::reach::with_list;
+use basics::tests::both;
 
 pub struct Residual4x4 {
     pub answer: u32,
@@ -164,13 +165,6 @@ fn mark_of(any: i32, reach: u32) -> u8
         return 0;
     }
     if reach < 2048 { 1 } else { 2 }
-}
-
-// Both of two tests, without a way out at the first.
-pub fn both(p: bool, q: bool) -> bool
-    ensures { λ r. ⌜ r ≡ (p && q) ⌝ }
-{
-    if p { q } else { false }
 }
 
 // The residuals of a list that passes, quad by quad, and whether every block is in range.

@@ -16,8 +16,8 @@ ghost use Rattle.transform_8x8.specs.Inverse8x8.{inverse8x8, inRange8x8}
 ghost use Rattle.transform_8x8.specs.inner.Firsts.{OnlyFirst};
 use super::passes::invert;
 use super::passes::round;
+use basics::tests::both;
 use residual::inverse::Blocks;
-use residual::inverse::both;
 use residual::inverse::mark_coded;
 use residual::inverse::refused;
 use residual::numbers::fill_all;

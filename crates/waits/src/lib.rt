@@ -1,6 +1,6 @@
 // The neighbour macroblocks that a record waits for: those that hold samples which one of its blocks reads.
 ghost use mathlib.Core.Path.{_≡_};
-ghost use mathlib.Core.Bool.{_&&_, _||_};
+ghost use mathlib.Core.Bool.{_||_};
 ghost use mathlib.Core.List.{List};
 ghost use lib.IntN.{ℤ};
 ghost use lib.ListN.{getD};
@@ -13,6 +13,8 @@ ghost use Rattle.waits.specs.Narrow.{AllNarrow};
 ghost use Rattle.waits.specs.Waits.{holdsOne, squareReads, predictorFor, waits};
 ghost use Rattle.waits.specs.inner.Holders.{holdersAt};
 use basics::marks::Sides;
+use basics::tests::both;
+use basics::tests::either;
 use macroblock::cut::across;
 use macroblock::cut::sides_at;
 use macroblock::rules::used_modes;
@@ -124,16 +126,4 @@ fn join(p: Marks, q: Marks) -> Marks
         c: either(p.c, q.c),
         d: either(p.d, q.d),
     }
-}
-
-fn both(p: bool, q: bool) -> bool
-    ensures { λ r. ⌜ r ≡ (p && q) ⌝ }
-{
-    if p { q } else { false }
-}
-
-fn either(p: bool, q: bool) -> bool
-    ensures { λ r. ⌜ r ≡ (p || q) ⌝ }
-{
-    if p { true } else { q }
 }

@@ -22,8 +22,4 @@ returns c =
 pub chroma-waited-spec : {M : Type 1} → statement M
 chroma-waited-spec =
     tie.close
-    (tie.spec
-    (λ c κs. search needs)
-    (λ c κs. search needs)
-    holders-of-requires
-    returns)
+    (tie.spec (λ c κs. search needs) (λ c κs. search needs) holders-of-requires returns)

@@ -51,7 +51,8 @@ both-same : {f g f′ g′ : Side → Bool} → f ≡ f′ → g ≡ g′ → _�
 both-same e h = λ i d. e i d || h i d
 
 -- the sides that are asked for are those of the block
-sides-are : {s : Sides} (kind k : ℕ) (marks : Side → Bool) → k < used kind → s ≡ cond (ltb k (used kind)) (sidesOf (cutFor kind .across) marks k) noSides → s ≡ sidesOf (cutFor kind .across) marks k
+sides-are : {s : Sides} (kind k : ℕ) (marks : Side → Bool) → k < used kind
+    → s ≡ cond (ltb k (used kind)) (sidesOf (cutFor kind .across) marks k) noSides → s ≡ sidesOf (cutFor kind .across) marks k
 sides-are kind k marks h e = e ∙ rw (lt-ltb k (used kind) h)
 
 loop-again : tie.Need-loop-again Inv-loop μ-loop
@@ -82,18 +83,6 @@ returns c =
 pub luma-waited-spec : {M : Type 1} → statement M
 luma-waited-spec =
     tie.close
-    (tie.spec
-    Inv-loop
-    μ-loop
-    (λ c κs. search needs)
-    (λ c κs. search needs)
-    loop-holds
-    (λ c κs. search needs)
-    (λ c κs. search needs)
-    (λ c κs. search needs)
-    holders-of-requires
-    (λ c κs. search needs)
-    (λ c. search needs)
-    (λ c. search needs)
-    loop-again
-    returns)
+    (tie.spec Inv-loop μ-loop (λ c κs. search needs) (λ c κs. search needs) loop-holds (λ c κs. search needs)
+    (λ c κs. search needs) (λ c κs. search needs) holders-of-requires (λ c κs. search needs) (λ c. search needs)
+    (λ c. search needs) loop-again returns)

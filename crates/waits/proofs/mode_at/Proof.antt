@@ -11,7 +11,4 @@ returns-2 c = sym (List·getD-eq-default (c .before .args .modes .now) 0 (c .if1
 pub mode-at-spec : {M : Type 1} → statement M
 mode-at-spec =
     tie.close
-    (tie.spec
-    (λ c. search needs)
-    (λ c. search needs)
-    returns-2)
+    (tie.spec (λ c. search needs) (λ c. search needs) returns-2)

@@ -6,7 +6,7 @@
 //! `bench FOLDER [ROUNDS [PART]]` writes table.md, benchmark.svg and, of all rows, headline.md into the folder; with PART the rows that have it in
 //! their names. Where valgrind is installed the table also has the instructions of each side: valgrind runs this program again with `count`, which
 //! makes each call of the same rows a fixed number of times and times nothing.
-use harness::{bare_share, good_records, slice_map, sparse_records, Density, Memory, Random, Record};
+use harness::{bare_share, good_record, good_records, slice_map, sparse_records, Density, Guarded, Memory, Random, Record};
 use jiwarbend::sys::*;
 use oracle::inverse_8x8::inverse_8x8;
 use oracle::predict::{self, I16Mode};
@@ -597,6 +597,40 @@ fn picture(random: &mut Random, group: &'static str, name: String, (w, h): (u32,
     row
 }
 
+/// Calls that are refused as not ready, by kind: in the middle of the second row of 3 by 2 macroblocks in one slice. The left neighbour is undone, and each
+/// record reads it, at least for its chroma.
+fn waiting() -> Vec<Row> {
+    let mut random = Random::new(5);
+    let one = |(kind, name): (u8, &str)| {
+        let slices = vec![0; 6];
+        let near = driver::near(3, &slices, 1, 1);
+        let records: Vec<Record> = (0..INPUTS).map(|_| Record { chroma_mode: 0, ..good_record(&mut random, kind, near) }).collect();
+        let mut ours = Memory::new(&mut random, 3, 2, slices, 0);
+        ours.done = Guarded::new(&[1, 1, 1, 0, 0, 0]);
+        let (mut checked, mut bare) = (ours.clone(), ours.clone());
+        let refused = |memory: &mut Memory, r: &Record, call: &dyn Fn(&mut Memory, &Record) -> u32| {
+            assert_eq!(call(memory, r), 5);
+            black_box(memory);
+        };
+        let port = |m: &mut Memory, r: &Record| m.port(1, 1, r.kind, &r.modes, r.chroma_mode, &r.numbers);
+        compare(
+            "waiting",
+            format!("rebuild that waits, {name}"),
+            1.0,
+            vec![
+                &mut |i| {
+                    refused(&mut checked, &records[i], &|m, r| m.rust_as::<true, false>(1, 1, r.kind, &r.modes, r.chroma_mode, &r.numbers))
+                },
+                &mut |i| {
+                    refused(&mut bare, &records[i], &|m, r| m.rust_as::<false, false>(1, 1, r.kind, &r.modes, r.chroma_mode, &r.numbers))
+                },
+                &mut |i| refused(&mut ours, &records[i], &port),
+            ],
+        )
+    };
+    [(0, "4x4"), (1, "8x8"), (2, "16x16")].map(one).into()
+}
+
 const SIZES: [(u32, u32); 3] = [(11, 9), (40, 22), (120, 68)];
 
 /// Pictures whose numbers are drawn at random, by kind of macroblock.
@@ -711,10 +745,11 @@ fn predictions(inputs: &Inputs) -> Vec<Row> {
     rows
 }
 
-const GROUPS: [(&str, &str); 6] = [
+const GROUPS: [(&str, &str); 7] = [
     ("coded", "Whole pictures that x264 coded, nanoseconds for a macroblock"),
     ("sparse", "Whole pictures with as few coefficients as those, nanoseconds for a macroblock"),
     ("random", "Whole pictures with numbers at random, nanoseconds for a macroblock"),
+    ("waiting", "Macroblocks that are refused as not ready, nanoseconds for a call"),
     ("prediction", "Prediction, nanoseconds for a block"),
     ("sums", "Inverses and clipped sums, nanoseconds for a block"),
     ("small", "Small routines and start, nanoseconds for a call"),
@@ -778,8 +813,8 @@ fn headline(rows: &[Row]) -> String {
         let (least, most) = of.fold((f64::MAX, 0.0), |(a, b): (f64, f64), v| (a.min(v), b.max(v)));
         format!("{least:.2} to {most:.2}")
     };
-    let pictures = ["coded", "sparse", "random"];
-    let blocks: Vec<&Row> = rows.iter().filter(|r| !pictures.contains(&r.group)).collect();
+    let macroblocks = ["coded", "sparse", "random", "waiting"];
+    let blocks: Vec<&Row> = rows.iter().filter(|r| !macroblocks.contains(&r.group)).collect();
     let slower = |checks: bool| blocks.iter().filter(|r| r.ratio(checks).middle > 1.0).count();
     format!(
         "- Pictures that x264 coded take {} of the time of the best Rust with the same checks, and {} of the best Rust without checks 6 to 8.\n\
@@ -854,6 +889,7 @@ fn main() {
     let mut rows = coded_pictures();
     rows.extend(sparse_pictures());
     rows.extend(random_pictures());
+    rows.extend(waiting());
     rows.extend(predictions(&inputs));
     rows.extend(blocks(&inputs));
     rows.extend(small(&inputs));

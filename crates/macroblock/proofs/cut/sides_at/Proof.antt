@@ -33,9 +33,4 @@ returns-2 c =
 pub sides-at-spec : {M : Type 1} → statement M
 sides-at-spec =
     tie.close
-    (tie.spec
-    (λ c κs. search needs)
-    (λ c κs. search needs)
-    sides-of-requires
-    returns
-    returns-2)
+    (tie.spec (λ c κs. search needs) (λ c κs. search needs) sides-of-requires returns returns-2)

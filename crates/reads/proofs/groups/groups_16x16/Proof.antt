@@ -12,7 +12,4 @@ returns c = c .read-of .ensures ∙ read-same (groupsOf (c .before .before .args
 pub groups-16x16-spec : {M : Type 1} → statement M
 groups-16x16-spec =
     tie.close
-    (tie.spec
-    (λ c κs. search needs)
-    (λ c κs. search needs)
-    returns)
+    (tie.spec (λ c κs. search needs) (λ c κs. search needs) returns)

@@ -7,13 +7,11 @@ use Rattle.reads.proofs.groups.groups_4x4.Statement.{statement}
 use Rattle.reads.proofs.groups.groups_4x4.Tie as tie
 
 returns : tie.Need-returns
-returns c = c .read-of .ensures ∙ read-same (groupsOf (c .before .before .before .args .sides)) (c .before .before .permits-nxn .ensures) (c .before .named-nxn .ensures)
+returns c =
+    let p = c .before .before in
+    c .read-of .ensures ∙ read-same (groupsOf (p .before .args .sides)) (p .permits-nxn .ensures) (c .before .named-nxn .ensures)
 
 pub groups-4x4-spec : {M : Type 1} → statement M
 groups-4x4-spec =
     tie.close
-    (tie.spec
-    (λ c κs. search needs)
-    (λ c κs. search needs)
-    (λ c κs. search needs)
-    returns)
+    (tie.spec (λ c κs. search needs) (λ c κs. search needs) (λ c κs. search needs) returns)

@@ -12,7 +12,4 @@ returns c = c .read-of .ensures ∙ read-same (groupsOf (c .before .before .args
 pub groups-chroma-spec : {M : Type 1} → statement M
 groups-chroma-spec =
     tie.close
-    (tie.spec
-    (λ c κs. search needs)
-    (λ c κs. search needs)
-    returns)
+    (tie.spec (λ c κs. search needs) (λ c κs. search needs) returns)

@@ -12,7 +12,4 @@ returns c = (c .set-of .ensures ∙ ap groupSet (c .before .groups-4x4 .ensures)
 pub reads-4x4-spec : {M : Type 1} → statement M
 reads-4x4-spec =
     tie.close
-    (tie.spec
-    (λ c κs. search needs)
-    (λ c κs. search needs)
-    returns)
+    (tie.spec (λ c κs. search needs) (λ c κs. search needs) returns)

@@ -12,7 +12,4 @@ returns c = (c .set-of .ensures ∙ ap groupSet (c .before .groups-8x8 .ensures)
 pub reads-8x8-spec : {M : Type 1} → statement M
 reads-8x8-spec =
     tie.close
-    (tie.spec
-    (λ c κs. search needs)
-    (λ c κs. search needs)
-    returns)
+    (tie.spec (λ c κs. search needs) (λ c κs. search needs) returns)

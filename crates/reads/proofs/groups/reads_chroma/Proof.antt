@@ -12,7 +12,4 @@ returns c = (c .set-of .ensures ∙ ap groupSet (c .before .groups-chroma .ensur
 pub reads-chroma-spec : {M : Type 1} → statement M
 reads-chroma-spec =
     tie.close
-    (tie.spec
-    (λ c κs. search needs)
-    (λ c κs. search needs)
-    returns)
+    (tie.spec (λ c κs. search needs) (λ c κs. search needs) returns)
