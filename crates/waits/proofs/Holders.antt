@@ -179,3 +179,10 @@ module _ (m k : ℕ) (b : BlockOf m k) where
           said-due (eqb u 0) (eqb v 0) (eqb (u + 1) m) d read
           ∙ group-same (λ g. read g && groupAt (eqb u 0) (eqb v 0) (eqb (u + 1) m) g d) (λ g. read g && isHolder d (holderOf m k g))
           (λ g. ap (λ b. read g && b) (sym (held g d)))
+
+  -- no neighbour holds a group of a block that stands neither in the first column nor in the first row
+  pub inside-none : (read : Group → Bool) → eqb u 0 ≡ false → eqb v 0 ≡ false → _≡_ {A = Side → Bool} (λ _. false) (holdsOne m k read)
+  inside-none read e f = (λ i d. none d i) ∙ holders-are read
+    where
+      none : (d : Side) → false ≡ holdersAt (eqb u 0) (eqb v 0) (eqb (u + 1) m) read d
+      none d = rw (e, f) (elim d [ A ↦ refl | B ↦ refl | C ↦ refl | D ↦ refl ])

@@ -1,10 +1,11 @@
 // The neighbour macroblocks that a record waits for: those that hold samples which one of its blocks reads.
 ghost use mathlib.Core.Path.{_≡_};
-ghost use mathlib.Core.Bool.{_||_};
+ghost use mathlib.Core.Bool.{false, _||_};
 ghost use mathlib.Core.List.{List};
 ghost use lib.IntN.{ℤ};
 ghost use lib.ListN.{getD};
 ghost use Rattle.maps.specs.Neighbours.{marksOf};
+ghost use Rattle.macroblock.specs.Cut.{sidesOf};
 ghost use Rattle.macroblock.specs.Kinds.{recordOf, cutFor};
 ghost use Rattle.macroblock.specs.inner.Blocks.{BlockOf};
 ghost use Rattle.reads.specs.Exactly.{chroma8x8};
@@ -43,20 +44,27 @@ fn luma_waited(marks: Marks, kind: u8, modes: &[u8]) -> Marks
     ensures { λ r. ⌜ marksOf r ≡ squareReads (predictorFor kind) (cutFor kind .across) (marksOf marks) (λ k. getD (now (modes .entry)) k 0) ⌝ }
 {
     let n = used_modes(kind);
-    let m = across(kind);
-    let mut all = Marks {
-        a: false,
-        b: false,
-        c: false,
-        d: false,
-    };
+    let mut all = no_marks();
     let mut k = 0;
     while k < n {
-        let read = groups_for(kind, mode_at(modes, k), sides_at(kind, k, marks));
-        all = join(all, holders_of(k, m, read));
+        all = join(all, block_waited(kind, k, mode_at(modes, k), marks));
         k += 1;
     }
     all
+}
+
+// Those that hold what luma block k of a kind reads. One that stands neither in the first column nor in the first row has blocks of its own macroblock beside
+// it, and is not asked.
+fn block_waited(kind: u8, k: usize, mode: u8, marks: Marks) -> Marks
+    requires { ⌜ BlockOf (cutFor kind .across) k ⌝ }
+    ensures { λ r. ⌜ (let m = cutFor kind .across in
+        marksOf r ≡ holdsOne m k (predictorFor kind .reads (groupsOf (sidesOf m (marksOf marks) k)) mode)) ⌝ }
+{
+    if both(scan_column(k) != 0, scan_row(k) != 0) {
+        return no_marks();
+    }
+    let read = groups_for(kind, mode, sides_at(kind, k, marks));
+    holders_of(k, across(kind), read)
 }
 
 // Those that hold what a chroma block reads. Its sides are those of a luma square that is one block.
@@ -113,6 +121,17 @@ fn holders_at(first_column: bool, first_row: bool, last_column: bool, read: Side
         b: both(first_row, in_b),
         c: both(both(first_row, last_column), read.above_right),
         d: both(both(first_row, first_column), read.corner),
+    }
+}
+
+fn no_marks() -> Marks
+    ensures { λ r. ⌜ marksOf r ≡ (λ _. false) ⌝ }
+{
+    Marks {
+        a: false,
+        b: false,
+        c: false,
+        d: false,
     }
 }
 

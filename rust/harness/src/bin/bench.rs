@@ -613,6 +613,8 @@ fn waiting() -> Vec<Row> {
             black_box(memory);
         };
         let port = |m: &mut Memory, r: &Record| m.port(1, 1, r.kind, &r.modes, r.chroma_mode, &r.numbers);
+        // What modes read the Rust has in tables, which the first calls find.
+        records.iter().for_each(|r| assert_eq!(checked.rust(1, 1, r.kind, &r.modes, r.chroma_mode, &r.numbers), 5));
         compare(
             "waiting",
             format!("rebuild that waits, {name}"),
