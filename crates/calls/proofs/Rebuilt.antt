@@ -1,6 +1,5 @@
--- A macroblock call's promise, way by way: refused by the first rules, by 6, 7 or 5, by the record's own rules, or accepted. Assumes nothing.
+-- A macroblock call's promise, way by way: refused by the first rules, by those that the macroblock call tests, or accepted. Assumes nothing.
 use mathlib.Core.Path.{_≡_, refl, sym, ap, _∙_}
-use mathlib.Core.Bool.{true}
 use mathlib.Core.List.{List}
 use Prim.Native.Nat.{ℕ}
 use lib.ListN.{set}
@@ -11,22 +10,18 @@ use Rattle.maps.specs.Size.{total}
 use Rattle.maps.specs.declared.progress.Progress.{Progress}
 use Rattle.calls.specs.Planes.{Plane, three}
 use Rattle.calls.specs.Planes.Plane.{luma, cb, cr}
-use Rattle.calls.specs.Rebuild.{Call, Lent, lent, here, first, recordRules, squareIn, rebuilt, Rebuilds}
-use Rattle.calls.proofs.Rules.{readyNow, refused-by, waiting, waiting-refuses, by-record}
+use Rattle.calls.specs.Rebuild.{Call, Lent, lent, here, first, squareIn, rebuilt, Rebuilds}
+use Rattle.calls.proofs.Rules.{refused-by, lateRules, late-answer}
 
 module _ (c : Call) (s : Lent) where
   pub refused-first : {r : ℕ} → r ≡ first c s → ¬ (r ≡ 0) → Rebuilds c s r s
   refused-first {r} e n = record { answers = e ∙ sym (refused-by c s (λ z. n (e ∙ z))); leaves = sym (refused r s (rebuilt c s) n) }
 
-  -- by 6, 7 or 5
-  pub refused-next : {r : ℕ} → first c s ≡ 0 → r ≡ waiting c s → ¬ (r ≡ 0) → Rebuilds c s r s
-  refused-next {r} e a n = record { answers = a ∙ sym (waiting-refuses c s e (λ z. n (a ∙ z))); leaves = sym (refused r s (rebuilt c s) n) }
+  pub refused-late : {r : ℕ} {t : Lent} → first c s ≡ 0 → r ≡ answer (lateRules c s) → ¬ (r ≡ 0) → t ≡ s → Rebuilds c s r t
+  refused-late {r} e a n same = record { answers = a ∙ sym (late-answer c s e); leaves = same ∙ sym (refused r s (rebuilt c s) n) }
 
-  pub refused-late : {r : ℕ} {t : Lent} → first c s ≡ 0 → readyNow c s ≡ true → r ≡ answer (recordRules c) → ¬ (r ≡ 0) → t ≡ s → Rebuilds c s r t
-  refused-late {r} e t a n same = record { answers = a ∙ sym (by-record c s e t); leaves = same ∙ sym (refused r s (rebuilt c s) n) }
-
-  pub taken : {t : Lent} → first c s ≡ 0 → readyNow c s ≡ true → 0 ≡ answer (recordRules c) → t ≡ rebuilt c s → Rebuilds c s 0 t
-  taken e t a done = record { answers = a ∙ sym (by-record c s e t); leaves = done }
+  pub taken : {t : Lent} → first c s ≡ 0 → 0 ≡ answer (lateRules c s) → t ≡ rebuilt c s → Rebuilds c s 0 t
+  taken e a done = record { answers = a ∙ sym (late-answer c s e); leaves = done }
 
 -- what is lent, piece by piece
 pub lent-same : {l l′ b b′ r r′ d d′ : List ℕ} {p p′ : Progress} → l ≡ l′ → b ≡ b′ → r ≡ r′ → d ≡ d′ → p ≡ p′ → lent l b r d p ≡ lent l′ b′ r′ d′ p′

@@ -9,19 +9,18 @@ use lib.ListN.{length}
 use borrow.Author.Tests.{not-true}
 use Rattle.laws.specs.Answer.{Check, answer}
 use Rattle.laws.proofs.Answers.{holds, broken, passes-by, passes, answer-without, answer-later, answer-earlier, earlier-hold, answer-without-rule}
-use Rattle.laws.proofs.Tests.{no-from, choose}
+use Rattle.laws.proofs.Tests.{no-from}
 use Rattle.order.specs.Order.{Done}
-use Rattle.maps.specs.Done.{isDone, allSettled}
+use Rattle.maps.specs.Done.{isDone}
 use Rattle.maps.specs.Neighbours.{Side, beside}
 use Rattle.maps.specs.Size.{Size, sizeOk, Stands, placeOk}
 use Rattle.maps.proofs.Beside.{available-at}
 use Rattle.maps.proofs.Sizes.{size-is, size-yes, place-is, place-yes}
-use Rattle.maps.proofs.Waiting.{settled-is, settled-yes, settled-no}
-use Rattle.macroblock.specs.Rules.{listsGood, known, permitted, knownRule, permittedRule, numbersRule, earlyRules}
+use Rattle.maps.proofs.Waiting.{settled-is, settled-no}
+use Rattle.macroblock.specs.Rules.{listsGood, known, permitted, knownRule, permittedRule, numbersRule, earlyRules, waitRule}
 use Rattle.waits.proofs.Narrow.{waits-marked}
 use Rattle.calls.specs.Planes.{roomOk}
 use Rattle.calls.specs.Rebuild.{Call, Lent, here, marks, waitsFor, neighboursRule, rules, answerTo, firstRules, first, earlier, recordRules}
-use Rattle.calls.specs.inner.Waiting.{waitingAnswer}
 use Rattle.calls.proofs.Lending.{LentRoom, room-is, room-yes}
 
 -- a neighbour that is waited for is available
@@ -119,28 +118,12 @@ module _ (c : Call) (s : Lent) where
   unfolding recordRules
   by-record e t = late e ∙ answer-without-rule modes 5 last t ∙ sym (holds 2 (modes ++ last) (passed-is e .lists))
 
-  -- what is answered before the macroblock is rebuilt
-  abbrev pub waiting : ℕ
-  waiting = waitingAnswer (c .width) (c .x) (c .y) (marks c) (waitsFor c) (c .mb) (s .done)
+  -- the rules that the macroblock call tests, those on the lists once more among them
+  abbrev pub lateRules : List Check
+  lateRules = earlyRules (marks c) (c .mb) ++ waitRule readyNow ∷ last
 
-  pub waiting-refuses : first c s ≡ 0 → ¬ (waiting ≡ 0) → answerTo c s ≡ waiting
-  waiting-refuses e =
-      choose (λ r. ¬ (r ≡ 0) → answerTo c s ≡ r) (allSettled (c .width) (c .x) (c .y) (marks c) (s .done)) 0 (answer (earlyRules (marks c) (c .mb) ++ (neighboursRule c s ∷ [])))
-      (λ _ n. absurd (n refl))
-      (λ _ n.
-      let f = holds 2 (modes ++ (neighboursRule c s ∷ [])) (passed-is e .lists) in
-      late e ∙ answer-earlier (modes ++ (neighboursRule c s ∷ [])) last (λ z. n (f ∙ z)) ∙ sym f)
-
-  pub waiting-ready : waiting ≡ 0 → readyNow ≡ true
-  waiting-ready =
-      choose (λ r. r ≡ 0 → readyNow ≡ true) (allSettled (c .width) (c .x) (c .y) (marks c) (s .done)) 0 (answer (earlyRules (marks c) (c .mb) ++ (neighboursRule c s ∷ [])))
-      (λ t _.
-      settled-yes (c .width) (c .x) (c .y) (waitsFor c) (s .done)
-      (λ d w. settled-is (c .width) (c .x) (c .y) (marks c) (s .done) t d (waits-available c d w)))
-      (λ _ z.
-      let f = passes 1 (listsGood (c .mb)) (modes ++ (neighboursRule c s ∷ [])) z .1 in
-      let k = passes 5 (known (c .mb)) (permittedRule (marks c) (c .mb) ∷ neighboursRule c s ∷ []) f .1 in
-      passes 4 readyNow [] (passes 6 (permitted (marks c) (c .mb)) (neighboursRule c s ∷ []) k .1) .0)
+  pub late-answer : first c s ≡ 0 → answerTo c s ≡ answer lateRules
+  late-answer e = late e ∙ sym (holds 2 (modes ++ (neighboursRule c s ∷ last)) (passed-is e .lists))
 
   pub not-ready-when : earlier c s ≡ 0 → (answerTo c s ≡ 5) ↔ ((k : Side) × (waitsFor c k ≡ true) × ¬ Done (s .done) (beside (c .width) (c .x) (c .y) k))
   not-ready-when e = (

@@ -2,7 +2,7 @@
 -- Assumes nothing.
 use mathlib.Core.Path.{_≡_, refl, ap, _∙_}
 use mathlib.Core.Bool.{Bool, true, false, cond}
-use mathlib.Core.List.{List}
+use mathlib.Core.List.{List, [], _∷_, _++_}
 use Prim.Native.Nat.{ℕ, suc, _+_, _*_, _-_, _≤_, _<_}
 use native.Mathlib.Nat.{mul-le-mul-right, suc-mul}
 use native.Mathlib.Omega.{arith}
@@ -15,7 +15,7 @@ use Rattle.maps.specs.Neighbours.{Side, inPicture, available}
 use Rattle.maps.specs.Neighbours.Side.{A, B, C, D}
 use Rattle.maps.specs.Size.{Stands}
 use Rattle.maps.proofs.Beside.{available-inside}
-use Rattle.macroblock.specs.Rules.{room, rooms, permitted, rebuildAnswer}
+use Rattle.macroblock.specs.Rules.{room, rooms, permitted, earlyRules, waitRule, numbersRule, rebuildAnswer}
 use Rattle.macroblock.specs.declared.Strides.{Strides}
 use Rattle.macroblock.specs.Local.{Local, Promise}
 use Rattle.macroblock.proofs.Promised.{promised}
@@ -23,7 +23,7 @@ use Rattle.waits.specs.Narrow.{Narrow}
 use Rattle.waits.proofs.Narrow.{narrow}
 use Rattle.calls.specs.Planes.{Plane, side}
 use Rattle.calls.specs.Planes.Plane.{luma, cb, cr}
-use Rattle.calls.specs.Rebuild.{Call, marks, waitsFor, recordRules, squareIn}
+use Rattle.calls.specs.Rebuild.{Call, marks, waitsFor, squareIn}
 use Rattle.calls.proofs.Lending.{PlaneRoom}
 use Rattle.calls.proofs.Rules.{waits-available}
 
@@ -88,10 +88,11 @@ module _ (c : Call) (bytes : Plane → ℕ) (fits : (p : Plane) → PlaneRoom (s
       room-in : (p : Plane) → room (side p) (bytes p) (c .stride p) (c .x) (c .y) (marks c) ≡ true
       room-in p = square-room (side p) (c .width) (c .height) (c .stride p) (bytes p) (c .x) (c .y) (side-pos p) (fits p) place (c .slices)
 
-  -- the macroblock call's answer is that of the rules that speak of the record
-  pub by-macroblock : (m : Side → Bool) {r : ℕ} → m ≡ marks c → r ≡ rebuildAnswer (roomsOf m) m (c .mb) → r ≡ answer (recordRules c)
-  unfolding recordRules
-  by-macroblock m {r} e f = f ∙ ap (λ n. rebuildAnswer (roomsOf n) n (c .mb)) e ∙ holds 2 (recordRules c) rooms-hold
+  -- the macroblock call finds room, so that its answer is that of its other rules
+  pub by-macroblock : (m : Side → Bool) (ready : Bool) {r : ℕ} → m ≡ marks c → r ≡ rebuildAnswer (roomsOf m) m ready (c .mb)
+      → r ≡ answer (earlyRules (marks c) (c .mb) ++ waitRule ready ∷ numbersRule (c .mb) ∷ [])
+  by-macroblock m ready {r} e f =
+      f ∙ ap (λ n. rebuildAnswer (roomsOf n) n ready (c .mb)) e ∙ holds 2 (earlyRules (marks c) (c .mb) ++ waitRule ready ∷ numbersRule (c .mb) ∷ []) rooms-hold
 
   -- and its promise holds in each plane
   kept-promise : Promise (c .x) (c .y) (bytes luma) (bytes cb) (bytes cr) strides (marks c) (c .mb)

@@ -3,4 +3,3 @@ pub mod AnyOrder
 pub mod Planes
 pub mod Rebuild
 pub mod Run
-pub mod inner

@@ -1,7 +1,7 @@
--- A record that is not refused before its numbers are read: its lists have their lengths, and each luma mode and the chroma mode are ones that the predictors answer 0 for. These
--- rules decide alone where they refuse, and otherwise the numbers do. Assumes nothing.
+-- A record that is not refused before its numbers are read: its lists have their lengths, and each luma mode and the chroma mode are ones that the predictors
+-- answer 0 for. These rules decide alone where they refuse; otherwise waiting does, and then the numbers. Assumes nothing.
 use mathlib.Core.Path.{_≡_, sym, ap, _∙_}
-use mathlib.Core.Bool.{Bool, true, cond, _&&_}
+use mathlib.Core.Bool.{Bool, true, false, cond, _&&_}
 use mathlib.Core.List.{[], _∷_}
 use Prim.Native.Nat.{ℕ, _<_}
 use native.Mathlib.Omega.{arith}
@@ -10,13 +10,13 @@ use lib.Dec.{eqb, leb}
 use lib.ListN.{getD, length}
 use Rattle.laws.specs.Answer.{answer}
 use Rattle.laws.specs.Table.{allBelow}
-use Rattle.laws.proofs.Answers.{passes, answer-later, answer-earlier}
+use Rattle.laws.proofs.Answers.{holds, broken, passes, answer-later, answer-earlier}
 use Rattle.laws.proofs.Tests.{and-left, and-right, all-at}
 use Rattle.basics.specs.Marks.{permittedChroma, modeAnswer}
 use Rattle.maps.specs.Neighbours.{Side}
 use Rattle.maps.specs.Neighbours.Side.{A, B, D}
 use Rattle.macroblock.specs.declared.Record.{Record}
-use Rattle.macroblock.specs.Rules.{used, lastMode, modeKnown, listsGood, known, permittedAt, permitted, permittedRule, knownRule, numbersRule, earlyRules, rebuildAnswer}
+use Rattle.macroblock.specs.Rules.{used, lastMode, modeKnown, listsGood, known, permittedAt, permitted, permittedRule, knownRule, numbersRule, earlyRules, waitRule, rebuildAnswer}
 use Rattle.macroblock.specs.inner.Blocks.{modeFine}
 use Rattle.macroblock.proofs.ByKind.{used-few}
 
@@ -49,9 +49,16 @@ module _ (marks : Side → Bool) (r : Record) where
         chroma = rw (and-right (t₁ && t₂) t₃ (p .0), and-right t₄ t₅ (q .0));
       }
 
-  -- with room, the record decides: first its lists, its kind and its modes, and where they are accepted its numbers
-  pub early-decide : (room : Bool) → room ≡ true → (answer (earlyRules marks r) ≡ 0 → ⊥) → rebuildAnswer room marks r ≡ answer (earlyRules marks r)
-  early-decide room e z = rw e (answer-earlier (earlyRules marks r) (numbersRule r ∷ []) z)
+  -- with room, the record decides: first its lists, its kind and its modes, where they are accepted whether it is ready, and then its numbers
+  module _ (room ready : Bool) (e : room ≡ true) where
+    pub early-decide : (answer (earlyRules marks r) ≡ 0 → ⊥) → rebuildAnswer room marks ready r ≡ answer (earlyRules marks r)
+    early-decide z = rw e (answer-earlier (earlyRules marks r) (waitRule ready ∷ numbersRule r ∷ []) z)
 
-  pub numbers-decide : (room : Bool) → room ≡ true → answer (earlyRules marks r) ≡ 0 → rebuildAnswer room marks r ≡ answer (numbersRule r ∷ [])
-  numbers-decide room e z = rw e (answer-later (earlyRules marks r) (numbersRule r ∷ []) tt z)
+    later : answer (earlyRules marks r) ≡ 0 → rebuildAnswer room marks ready r ≡ answer (waitRule ready ∷ numbersRule r ∷ [])
+    later z = rw e (answer-later (earlyRules marks r) (waitRule ready ∷ numbersRule r ∷ []) tt z)
+
+    pub wait-decides : answer (earlyRules marks r) ≡ 0 → ready ≡ false → rebuildAnswer room marks ready r ≡ 5
+    wait-decides z f = later z ∙ broken 5 (numbersRule r ∷ []) f
+
+    pub numbers-decide : answer (earlyRules marks r) ≡ 0 → ready ≡ true → rebuildAnswer room marks ready r ≡ answer (numbersRule r ∷ [])
+    numbers-decide z t = later z ∙ holds 5 (numbersRule r ∷ []) t

@@ -1,4 +1,4 @@
--- What a macroblock call is refused for: refusals 2, 6, 7 and 8 of docs/RULES.md, in its words.
+-- What a macroblock call is refused for: refusals 2, 6, 7, 5 and 8 of docs/RULES.md, in its words.
 use mathlib.Core.Bool.{Bool, cond, not, _&&_, _||_}
 use mathlib.Core.List.{List, [], _∷_, _++_}
 use Prim.Native.Nat.{ℕ, zero, suc, _+_, _*_, _-_}
@@ -100,6 +100,10 @@ numbersRule r = 8 unless numbersGood r
 abbrev pub earlyRules : (Side → Bool) → Record → List Check
 earlyRules marks r = listRule r ∷ knownRule r ∷ permittedRule marks r ∷ []
 
+-- 5: the neighbours that the record waits for are done; which these are, the caller says
+abbrev pub waitRule : (ready : Bool) → Check
+waitRule ready = 5 unless ready
+
 -- the call's answer
-abbrev pub rebuildAnswer : (rooms : Bool) → (Side → Bool) → Record → ℕ
-rebuildAnswer rooms marks r = answer (roomRule rooms ∷ earlyRules marks r ++ numbersRule r ∷ [])
+abbrev pub rebuildAnswer : (rooms : Bool) → (Side → Bool) → (ready : Bool) → Record → ℕ
+rebuildAnswer rooms marks ready r = answer (roomRule rooms ∷ earlyRules marks r ++ waitRule ready ∷ numbersRule r ∷ [])

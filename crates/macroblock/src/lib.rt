@@ -38,7 +38,7 @@ pub struct Strides {
     pub cr: usize,
 }
 
-// Rebuilds macroblock (x, y) of three planes from a record's parts, where its neighbours have these marks.
+// Rebuilds macroblock (x, y) of three planes from a record's parts, where its neighbours have these marks, if those that it waits for are done: `ready` says so.
 pub fn rebuild(
     x: u32,
     y: u32,
@@ -47,6 +47,7 @@ pub fn rebuild(
     cr: &mut [u8],
     strides: Strides,
     marks: Marks,
+    ready: bool,
     kind: u8,
     modes: &[u8],
     chroma_mode: u8,
@@ -54,7 +55,7 @@ pub fn rebuild(
 ) -> u32
     ensures { λ r. ⌜ r ≡ rebuildAnswer
         (rooms x y (length (now (luma .entry))) (length (now (cb .entry))) (length (now (cr .entry))) strides (marksOf marks))
-        (marksOf marks) (recordOf kind (now (modes .entry)) «chroma_mode» (now (numbers .entry))) ⌝ }
+        (marksOf marks) ready (recordOf kind (now (modes .entry)) «chroma_mode» (now (numbers .entry))) ⌝ }
     ensures { λ r. ⌜ now (luma .exit) ≡ written r (now (luma .entry))
         (lumaSquare x y (marksOf marks) (recordOf kind (now (modes .entry)) «chroma_mode» (now (numbers .entry))) (strides .luma) (now (luma .entry))) ⌝ }
     ensures { λ r. ⌜ now (cb .exit) ≡ written r (now (cb .entry))
@@ -74,6 +75,9 @@ pub fn rebuild(
     let answer = record_answer(marks, kind, modes, chroma_mode, numbers);
     if answer != 0 {
         return answer;
+    }
+    if !ready {
+        return 5;
     }
     decode(spot, luma, cb, cr, kind, modes, chroma_mode, numbers)
 }

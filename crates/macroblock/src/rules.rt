@@ -53,7 +53,13 @@ fn implies(p: bool, q: bool) -> bool
 }
 
 // What a record is refused for at these marks before its numbers are read, and 0 where it is not.
-pub fn record_answer(marks: Marks, kind: u8, modes: &[u8], chroma_mode: u8, numbers: &[i32]) -> u32
+pub(crate) fn record_answer(
+    marks: Marks,
+    kind: u8,
+    modes: &[u8],
+    chroma_mode: u8,
+    numbers: &[i32],
+) -> u32
     ensures { λ r. ⌜ r ≡ answer (earlyRules (marksOf marks) (recordOf kind (now (modes .entry)) «chroma_mode» (now (numbers .entry)))) ⌝ }
 {
     if !has_lists(modes.len(), numbers.len()) {

@@ -115,6 +115,7 @@ fn rebuild(
         &mut cr[..cr_len],
         strides,
         marks(head[3]),
+        true,
         head[4],
         modes,
         head[5],

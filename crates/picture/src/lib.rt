@@ -3,19 +3,13 @@ ghost use mathlib.Core.Path.{_≡_};
 ghost use Rattle.macroblock.specs.Kinds.{recordOf};
 ghost use Rattle.macroblock.specs.Rules.{listsGood};
 ghost use Rattle.macroblock.specs.declared.Record.{Record};
-ghost use Rattle.maps.specs.Neighbours.{marksOf};
 ghost use Rattle.maps.specs.Progress.{progressOf};
-ghost use Rattle.waits.specs.Waits.{waits};
 ghost use Rattle.calls.specs.AnyOrder.{AnyOrder};
 ghost use Rattle.calls.specs.Rebuild.{call, lent, first, Rebuilds};
 ghost use Rattle.calls.specs.Run.{Picture};
-ghost use Rattle.calls.specs.inner.Waiting.{waitingAnswer};
 use basics::tests::both;
 use macroblock::Strides;
-use macroblock::rules::record_answer;
 use maps::done::is_done;
-use maps::done::ready;
-use maps::neighbours::Marks;
 use maps::neighbours::marks_of;
 use maps::progress::Progress;
 use maps::progress::accepted;
@@ -23,7 +17,7 @@ use maps::size::Spot;
 use maps::size::place_ok;
 use maps::size::size_ok;
 use planes::room_ok;
-use waits::waited;
+use waits::is_ready;
 
 mod planes; // the memory that is lent
 
@@ -74,34 +68,6 @@ fn refuse(
     0
 }
 
-// The refusals 6 and 7 of a record at these marks, and then 5 where a neighbour that it waits for is undone, or 0. Where every available neighbour is done
-// there is none to wait for: the answer is 0, and the record's modes are not looked at.
-fn refuse_waiting(
-    spot: Spot,
-    done: &[u8],
-    marks: Marks,
-    kind: u8,
-    modes: &[u8],
-    chroma_mode: u8,
-    numbers: &[i32],
-) -> u32
-    ensures { λ r. ⌜ (let m = recordOf kind (now (modes .entry)) «chroma_mode» (now (numbers .entry)) in
-        r ≡ waitingAnswer (spot .w) (spot .x) (spot .y) (marksOf marks) (waits (marksOf marks) m) m (now (done .entry))) ⌝ }
-{
-    if ready(done, spot.w, spot.x, spot.y, marks) {
-        return 0;
-    }
-    let refusal = record_answer(marks, kind, modes, chroma_mode, numbers);
-    if refusal != 0 {
-        return refusal;
-    }
-    let awaited = waited(marks, kind, modes, chroma_mode);
-    if ready(done, spot.w, spot.x, spot.y, awaited) {
-        return 0;
-    }
-    5
-}
-
 // Rebuilds a macroblock of a picture from a record's parts: in any order that it accepts, the picture is the right one. The progress record is its two
 // numbers, stored only where the answer is 0.
 pub fn rebuild(
@@ -133,10 +99,7 @@ pub fn rebuild(
         return answer;
     }
     let marks = marks_of(slices, spot.w, spot.h, spot.x, spot.y);
-    let answer = refuse_waiting(spot, done, marks, kind, modes, chroma_mode, numbers);
-    if answer != 0 {
-        return answer;
-    }
+    let ready = is_ready(spot, done, marks, kind, modes, chroma_mode);
     let answer = macroblock::rebuild(
         spot.x,
         spot.y,
@@ -145,6 +108,7 @@ pub fn rebuild(
         cr,
         strides,
         marks,
+        ready,
         kind,
         modes,
         chroma_mode,

@@ -4,6 +4,7 @@ ghost use mathlib.Core.Bool.{false, _||_};
 ghost use mathlib.Core.List.{List};
 ghost use lib.IntN.{ℤ};
 ghost use lib.ListN.{getD};
+ghost use Rattle.maps.specs.Done.{allSettled};
 ghost use Rattle.maps.specs.Neighbours.{marksOf};
 ghost use Rattle.macroblock.specs.Cut.{sidesOf};
 ghost use Rattle.macroblock.specs.Kinds.{recordOf, cutFor};
@@ -21,11 +22,33 @@ use macroblock::cut::sides_at;
 use macroblock::rules::used_modes;
 use macroblock::scan_xy::scan_column;
 use macroblock::scan_xy::scan_row;
+use maps::done::ready;
 use maps::neighbours::Marks;
+use maps::size::Spot;
 use reads::groups::groups_4x4;
 use reads::groups::groups_8x8;
 use reads::groups::groups_16x16;
 use reads::groups::groups_chroma;
+
+// Whether the neighbours are done that a record with these parts waits for at a macroblock of a picture, where these are available. Where every available
+// one is done, the record's modes are not looked at.
+pub fn is_ready(
+    spot: Spot,
+    done: &[u8],
+    marks: Marks,
+    kind: u8,
+    modes: &[u8],
+    chroma_mode: u8,
+) -> bool
+    ensures { λ r. ⌜ ((numbers : List ℤ) → r ≡ allSettled (spot .w) (spot .x) (spot .y)
+        (waits (marksOf marks) (recordOf kind (now (modes .entry)) «chroma_mode» numbers)) (now (done .entry))) ⌝ }
+{
+    if ready(done, spot.w, spot.x, spot.y, marks) {
+        return true;
+    }
+    let awaited = waited(marks, kind, modes, chroma_mode);
+    ready(done, spot.w, spot.x, spot.y, awaited)
+}
 
 // The neighbours that a record with these parts waits for, where these are available: if its modes are permitted it depends on no other. A mode that is
 // not there counts as 0.

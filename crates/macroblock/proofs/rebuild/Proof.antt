@@ -1,4 +1,5 @@
--- `macroblock::rebuild` meets its contract: without room it answers 2, else what the record's lists and modes answer, and where that is 0 what its numbers do. Assumes nothing.
+-- `macroblock::rebuild` meets its contract: without room it answers 2, else what the record's lists and modes answer, and where that is 0 it waits, or its
+-- numbers decide. Assumes nothing.
 use mathlib.Core.Path.{_≡_, refl, sym, _∙_}
 use mathlib.Core.Bool.{true}
 use native.Mathlib.Omega.{arith}
@@ -9,7 +10,7 @@ use Rattle.maps.specs.Neighbours.{marksOf}
 use Rattle.macroblock.specs.declared.Record.{Record}
 use Rattle.macroblock.specs.Kinds.{recordOf}
 use Rattle.macroblock.specs.Rules.{rooms}
-use Rattle.macroblock.proofs.Early.{early-decide, numbers-decide}
+use Rattle.macroblock.proofs.Early.{early-decide, wait-decides, numbers-decide}
 use borrow.Author.Needs.{needs}
 use Rattle.macroblock.proofs.rebuild.Statement.{statement}
 use Rattle.macroblock.proofs.rebuild.Tie as tie
@@ -38,20 +39,32 @@ returns-2 c =
     let r = c .before in
     let u = start (r .before) in
     let z : r .record-answer .result ≡ 0 → ⊥ = λ e. omega arith in (
-      r .record-answer .ensures ∙ sym (early-decide (marksOf (u .args .marks)) (given u) _ (has (r .before)) (λ h. z (r .record-answer .ensures ∙ h))),
+      r .record-answer .ensures ∙ sym (early-decide (marksOf (u .args .marks)) (given u) _ (u .args .ready) (has (r .before)) (λ h. z (r .record-answer .ensures ∙ h))),
       (sym (refused _ _ _ z), (sym (refused _ _ _ z), sym (refused _ _ _ z))),
     )
 
-decode-requires : tie.Need-decode-requires
-decode-requires c κs = let e = c .before .before .before in (has (e .before .before), sym (e .before .record-answer .ensures) ∙ passed e)
-
+-- not ready
 returns-3 : tie.Need-returns-3
 returns-3 c =
-    let d = c .before .before .before .before .before .before in
-    let e = d .before .before .before .before in
+    let e = c .before in
     let r = e .before in
     let u = start (r .before) in
-    (d .decode .ensures .0 ∙ sym (numbers-decide (marksOf (u .args .marks)) (given u) _ (has (r .before)) (sym (r .record-answer .ensures) ∙ passed e)), d .decode .ensures .1)
+    (sym (wait-decides (marksOf (u .args .marks)) (given u) _ (u .args .ready) (has (r .before)) (sym (r .record-answer .ensures) ∙ passed e) (not-true _ (c .if3 .taken))), (refl, (refl, refl)))
+
+decode-requires : tie.Need-decode-requires
+decode-requires c κs = let e = c .before .before .before .before in (has (e .before .before), sym (e .before .record-answer .ensures) ∙ passed e)
+
+returns-4 : tie.Need-returns-4
+returns-4 c =
+    let d = c .before .before .before .before .before .before in
+    let f = d .before .before .before .before in
+    let e = f .before in
+    let r = e .before in
+    let u = start (r .before) in (
+      d .decode .ensures .0
+          ∙ sym (numbers-decide (marksOf (u .args .marks)) (given u) _ (u .args .ready) (has (r .before)) (sym (r .record-answer .ensures) ∙ passed e) (not-false _ (f .if3 .left))),
+      d .decode .ensures .1,
+    )
 
 has-rooms-requires : tie.Need-has-rooms-requires
 has-rooms-requires c κs = search needs
@@ -76,8 +89,9 @@ rebuild-spec {M} =
     returns
     record-answer-requires
     returns-2
+    returns-3
     decode-requires
     same-length
     same-length-2
     same-length-3
-    returns-3)
+    returns-4)

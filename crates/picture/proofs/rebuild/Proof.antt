@@ -1,26 +1,26 @@
--- `picture::rebuild` meets its contract: the first rules, then 6, 7 and 5 where a neighbour is undone, then the macroblock call, which finds room and whose
--- other rules are those of the record; an accepted call then marks the map and counts. Demand 3 is `any-order`. Assumes nothing.
+-- `picture::rebuild` meets its contract: the first rules, and then the macroblock call, which finds room and whose other rules are those that are left; an
+-- accepted call then marks the map and counts. Demand 3 is `any-order`. Assumes nothing.
 use mathlib.Core.Path.{_≡_, refl, sym, ap, _∙_}
-use mathlib.Core.Bool.{Bool, true}
-use mathlib.Core.List.{List}
+use mathlib.Core.Bool.{Bool}
+use mathlib.Core.List.{List, [], _∷_, _++_}
 use Prim.Native.Nat.{ℕ, _≤_, _<_}
 use native.Mathlib.Omega.{arith}
 use lib.ListN.{length}
 use Rattle.laws.specs.Answer.{answer, written}
 use Rattle.laws.proofs.Answers.{put, refused}
+use Rattle.maps.specs.Done.{allSettled}
 use Rattle.maps.specs.Neighbours.{Side, marksOf}
 use Rattle.maps.specs.Progress.{progressOf}
 use Rattle.maps.specs.Size.{total}
 use Rattle.maps.proofs.Beside.{marks-at}
 use Rattle.maps.proofs.Sizes.{total-most, address-inside}
 use Rattle.macroblock.specs.Kinds.{recordOf, lumaSquare, cbSquare, crSquare}
-use Rattle.macroblock.specs.Rules.{listsGood}
+use Rattle.macroblock.specs.Rules.{listsGood, earlyRules, waitRule, numbersRule}
 use Rattle.waits.specs.Waits.{waits}
-use Rattle.calls.specs.Rebuild.{Call, call, Lent, lent, here, marks, recordRules, first}
-use Rattle.calls.specs.inner.Waiting.{waitingAnswer}
+use Rattle.calls.specs.Rebuild.{Call, call, Lent, lent, here, marks, first}
 use Rattle.calls.proofs.AnyOrder.{any-order}
-use Rattle.calls.proofs.Rebuilt.{refused-first, refused-next, refused-late, taken, lent-same, lent-rebuilt}
-use Rattle.calls.proofs.Rules.{Passed, passed-is, readyNow, waiting, waiting-ready}
+use Rattle.calls.proofs.Rebuilt.{refused-first, refused-late, taken, lent-same, lent-rebuilt}
+use Rattle.calls.proofs.Rules.{Passed, passed-is, readyNow, lateRules}
 use Rattle.calls.proofs.Squares.{by-macroblock}
 use borrow.Author.Needs.{needs}
 use Rattle.picture.proofs.rebuild.Statement.{statement}
@@ -35,27 +35,23 @@ given s =
 abbrev held : tie.Start → Lent
 held s = let a = s .args in lent (a .luma .now) (a .cb .now) (a .cr .now) (a .done .now) (progressOf (a .progress .now))
 
--- the ways back: from the first refusals and from where they are ruled out; from the marks, from where 6, 7 and 5 are, and from where the macroblock call has
--- answered
+-- the ways back: from the first refusals and from where they are ruled out; from whether it is ready, and from where the macroblock call has answered
 abbrev begin : tie.After-refuse → tie.Start
 begin c = c .before .before .before .before .before .before .before .before .before .before .before .before .before .before
 
 abbrev start : tie.Else1 → tie.Start
 start c = begin (c .before)
 
-abbrev ruled-out : tie.After-marks-of → tie.Else1
-ruled-out c = c .before
-
-abbrev looked : tie.After-refuse-waiting → tie.After-marks-of
+abbrev looked : tie.After-is-ready → tie.After-marks-of
 looked c = c .before .before
 
-abbrev tested : tie.Else2 → tie.Else1
-tested c = ruled-out (looked (c .before))
+abbrev tested : tie.After-rebuild → tie.After-is-ready
+tested c = c .before .before .before .before
 
-abbrev asked : tie.After-rebuild → tie.Else2
-asked c = c .before .before .before .before
+abbrev asked : tie.After-rebuild → tie.Else1
+asked c = looked (tested c) .before
 
-abbrev called : tie.Else3 → tie.After-rebuild
+abbrev called : tie.Else2 → tie.After-rebuild
 called c = c .before .before .before .before .before .before .before
 
 -- the record's lists are as long as the test says
@@ -76,27 +72,25 @@ passed c = passed-is (given (start c)) (held (start c)) (ok-early c)
 within : (c : tie.Else1) → let a = start c .args in (here (given (start c)) < total (a .spot .w) (a .spot .h)) × (total (a .spot .w) (a .spot .h) ≤ 8160)
 within c = let a = start c .args in (address-inside (a .spot .w) (a .spot .h) (a .spot .x) (a .spot .y) (passed c .place), total-most (a .spot .w) (a .spot .h) (passed c .size))
 
--- the marks are the picture's, and so the answer after them is that of 6, 7 and 5
-marks-right : (c : tie.After-marks-of) → marksOf (c .marks-of .result) ≡ marks (given (start (ruled-out c)))
+-- the marks are the picture's, and so those that the record waits for are
+marks-right : (c : tie.After-marks-of) → marksOf (c .marks-of .result) ≡ marks (given (start (c .before)))
 marks-right c =
-    let a = start (ruled-out c) .args in let g = passed (ruled-out c) in
+    let a = start (c .before) .args in let g = passed (c .before) in
     c .marks-of .ensures ∙ marks-at (a .spot .w) (a .spot .h) (a .slices .now) (a .spot .x) (a .spot .y) (g .size) (g .room .slices-long) (g .place)
 
-waiting-is : (c : tie.After-refuse-waiting) → let s = start (ruled-out (looked c)) in c .refuse-waiting .result ≡ waiting (given s) (held s)
-waiting-is c =
-    let a = start (ruled-out (looked c)) .args in
+ready-is : (c : tie.After-is-ready) → let s = start (looked c .before) in c .is-ready .result ≡ readyNow (given s) (held s)
+ready-is c =
+    let a = start (looked c .before) .args in
     let r = recordOf (a .kind) (a .modes .now) (a .chroma-mode) (a .numbers .now) in
-    c .refuse-waiting .ensures ∙ ap (λ m. waitingAnswer (a .spot .w) (a .spot .x) (a .spot .y) m (waits m r) r (a .done .now)) (marks-right (looked c))
-
-ok-ready : (c : tie.Else2) → readyNow (given (start (tested c))) (held (start (tested c))) ≡ true
-ok-ready c = waiting-ready (given (start (tested c))) (held (start (tested c))) (sym (waiting-is (c .before)) ∙ c .if2 .left)
+    c .is-ready .ensures (a .numbers .now) ∙ ap (λ m. allSettled (a .spot .w) (a .spot .x) (a .spot .y) (waits m r) (a .done .now)) (marks-right (looked c))
 
 -- the macroblock call's answer is this call's
-answered : (c : tie.After-rebuild) → c .rebuild .result ≡ answer (recordRules (given (start (tested (asked c)))))
+answered : (c : tie.After-rebuild) → let s = start (asked c) in c .rebuild .result ≡ answer (lateRules (given s) (held s))
 answered c =
-    let s = start (tested (asked c)) in
-    let g = passed (tested (asked c)) in
-    by-macroblock (given s) (λ p. length (held s .planes p)) (g .room .planes) (g .place) _ (marks-right (looked (asked c .before))) (c .rebuild .ensures .0)
+    let s = start (asked c) in
+    let g = passed (asked c) in
+    by-macroblock (given s) (λ p. length (held s .planes p)) (g .room .planes) (g .place) _ (tested c .is-ready .result) (marks-right (looked (tested c))) (c .rebuild .ensures .0)
+    ∙ ap (λ b. answer (earlyRules (marks (given s)) (given s .mb) ++ waitRule b ∷ numbersRule (given s .mb) ∷ [])) (ready-is (tested c))
 
 -- a plane that a refused macroblock call leaves, and one that an accepted call leaves
 old : {r : ℕ} {z : List ℕ} (l v : List ℕ) → ¬ (r ≡ 0) → z ≡ written r l v → z ≡ l
@@ -110,49 +104,44 @@ returns c = let s = begin (c .before) in (refused-first (given s) (held s) (earl
 
 returns-2 : tie.Need-returns-2
 returns-2 c =
-    let e = ruled-out (looked (c .before)) in
-    (refused-next (given (start e)) (held (start e)) (ok-early e) (waiting-is (c .before)) (c .if2 .taken), any-order)
-
-returns-3 : tie.Need-returns-3
-returns-3 c =
     let d = c .before .before .before .before .before .before .before in
-    let e = tested (asked d) in
+    let e = asked d in
     let a = start e .args in
     let q = d .rebuild .ensures in
-    let n = c .if3 .taken in (
-      refused-late (given (start e)) (held (start e)) (ok-early e) (ok-ready (asked d)) (answered d) n
+    let n = c .if2 .taken in (
+      refused-late (given (start e)) (held (start e)) (ok-early e) (answered d) n
           (lent-same (old (a .luma .now) _ n (q .1 .0)) (old (a .cb .now) _ n (q .1 .1 .0)) (old (a .cr .now) _ n (q .1 .1 .1)) refl refl),
       any-order,
     )
 
 mul-here : tie.Need-mul-here
-mul-here c = omega (arith, within (tested (asked (called (c .before)))))
+mul-here c = omega (arith, within (asked (called (c .before))))
 
 add-here : tie.Need-add-here
-add-here c = omega (arith, within (tested (asked (called (c .before .before)))))
+add-here c = omega (arith, within (asked (called (c .before .before))))
 
 cast-done : tie.Need-cast-done
-cast-done c = omega (arith, within (tested (asked (called (c .before .before)))))
+cast-done c = omega (arith, within (asked (called (c .before .before))))
 
 slice-write-done : tie.Need-slice-write-done
 slice-write-done c =
-    let e = tested (asked (called (c .before .before))) in
+    let e = asked (called (c .before .before)) in
     omega (arith, within e, passed e .room .done-long)
 
 mul-accepted : tie.Need-mul-accepted
-mul-accepted c = omega (arith, within (tested (asked (called (c .before .before .before)))))
+mul-accepted c = omega (arith, within (asked (called (c .before .before .before))))
 
-returns-4 : tie.Need-returns-4
-returns-4 c =
+returns-3 : tie.Need-returns-3
+returns-3 c =
     let f = c .before .before .before .before in
     let d = called f in
-    let e = tested (asked d) in
+    let e = asked d in
     let a = start e .args in
     let r = recordOf (a .kind) (a .modes .now) (a .chroma-mode) (a .numbers .now) in
     let q = d .rebuild .ensures in
-    let m = marks-right (looked (asked d .before)) in
-    let z = f .if3 .left in (
-      taken (given (start e)) (held (start e)) (ok-early e) (ok-ready (asked d)) (sym z ∙ answered d)
+    let m = marks-right (looked (tested d)) in
+    let z = f .if2 .left in (
+      taken (given (start e)) (held (start e)) (ok-early e) (sym z ∙ answered d)
           (lent-same
           (new (a .luma .now) (λ m. lumaSquare (a .spot .x) (a .spot .y) m r (a .strides .luma) (a .luma .now)) m z (q .1 .0))
           (new (a .cb .now) (λ m. cbSquare (a .spot .x) (a .spot .y) m r (a .strides .cb) (a .cb .now)) m z (q .1 .1 .0))
@@ -190,8 +179,8 @@ same-length-4 c = search needs
 marks-of-requires : tie.Need-marks-of-requires
 marks-of-requires c κs = search needs
 
-refuse-waiting-requires : tie.Need-refuse-waiting-requires
-refuse-waiting-requires c κs = search needs
+is-ready-requires : tie.Need-is-ready-requires
+is-ready-requires c κs = search needs
 
 same-length-5 : tie.Need-same-length-5
 same-length-5 c = search needs
@@ -223,22 +212,10 @@ same-length-12 c = search needs
 accepted-requires : tie.Need-accepted-requires
 accepted-requires c κs = search needs
 
-same-length-13 : tie.Need-same-length-13
-same-length-13 c = search needs
-
-same-length-14 : tie.Need-same-length-14
-same-length-14 c = search needs
-
-same-length-15 : tie.Need-same-length-15
-same-length-15 c = search needs
-
-same-length-16 : tie.Need-same-length-16
-same-length-16 c = search needs
-
 pub rebuild-spec : {M : Type 1} → statement M
 rebuild-spec =
     tie.close
     (tie.spec element-copy-out-here element-copy-out-accepted both-requires refuse-requires same-length same-length-2 same-length-3
-    same-length-4 returns marks-of-requires refuse-waiting-requires same-length-5 same-length-6 same-length-7 same-length-8 returns-2
-    rebuild-requires same-length-9 same-length-10 same-length-11 same-length-12 returns-3 mul-here add-here cast-done
-    slice-write-done mul-accepted accepted-requires same-length-13 same-length-14 same-length-15 same-length-16 returns-4)
+    same-length-4 returns marks-of-requires is-ready-requires rebuild-requires same-length-5 same-length-6 same-length-7 same-length-8
+    returns-2 mul-here add-here cast-done slice-write-done mul-accepted accepted-requires same-length-9 same-length-10 same-length-11
+    same-length-12 returns-3)

@@ -1,2 +1,0 @@
--- What only the contracts of private functions speak of.
-pub mod Waiting
