@@ -35,12 +35,16 @@ given s =
 abbrev held : tie.Start → Lent
 held s = let a = s .args in lent (a .luma .now) (a .cb .now) (a .cr .now) (a .done .now) (progressOf (a .progress .now))
 
--- the ways back: from the first refusals and from where they are ruled out; from whether it is ready, and from where the macroblock call has answered
+-- the ways back: from the first refusals and from where they are ruled out; from the marks, from whether it is ready, and from where the macroblock call has
+-- answered
 abbrev begin : tie.After-refuse → tie.Start
 begin c = c .before .before .before .before .before .before .before .before .before .before .before .before .before .before
 
 abbrev start : tie.Else1 → tie.Start
 start c = begin (c .before)
+
+abbrev ruled-out : tie.After-marks-of → tie.Else1
+ruled-out c = c .before
 
 abbrev looked : tie.After-is-ready → tie.After-marks-of
 looked c = c .before .before
@@ -49,7 +53,7 @@ abbrev tested : tie.After-rebuild → tie.After-is-ready
 tested c = c .before .before .before .before
 
 abbrev asked : tie.After-rebuild → tie.Else1
-asked c = looked (tested c) .before
+asked c = ruled-out (looked (tested c))
 
 abbrev called : tie.Else2 → tie.After-rebuild
 called c = c .before .before .before .before .before .before .before
@@ -73,14 +77,14 @@ within : (c : tie.Else1) → let a = start c .args in (here (given (start c)) < 
 within c = let a = start c .args in (address-inside (a .spot .w) (a .spot .h) (a .spot .x) (a .spot .y) (passed c .place), total-most (a .spot .w) (a .spot .h) (passed c .size))
 
 -- the marks are the picture's, and so those that the record waits for are
-marks-right : (c : tie.After-marks-of) → marksOf (c .marks-of .result) ≡ marks (given (start (c .before)))
+marks-right : (c : tie.After-marks-of) → marksOf (c .marks-of .result) ≡ marks (given (start (ruled-out c)))
 marks-right c =
-    let a = start (c .before) .args in let g = passed (c .before) in
+    let a = start (ruled-out c) .args in let g = passed (ruled-out c) in
     c .marks-of .ensures ∙ marks-at (a .spot .w) (a .spot .h) (a .slices .now) (a .spot .x) (a .spot .y) (g .size) (g .room .slices-long) (g .place)
 
-ready-is : (c : tie.After-is-ready) → let s = start (looked c .before) in c .is-ready .result ≡ readyNow (given s) (held s)
+ready-is : (c : tie.After-is-ready) → let s = start (ruled-out (looked c)) in c .is-ready .result ≡ readyNow (given s) (held s)
 ready-is c =
-    let a = start (looked c .before) .args in
+    let a = start (ruled-out (looked c)) .args in
     let r = recordOf (a .kind) (a .modes .now) (a .chroma-mode) (a .numbers .now) in
     c .is-ready .ensures (a .numbers .now) ∙ ap (λ m. allSettled (a .spot .w) (a .spot .x) (a .spot .y) (waits m r) (a .done .now)) (marks-right (looked c))
 
