@@ -38,7 +38,8 @@ pub struct Strides {
     pub cr: usize,
 }
 
-// Rebuilds macroblock (x, y) of three planes from a record's parts, where its neighbours have these marks, if those that it waits for are done: `ready` says so.
+// Rebuilds macroblock (x, y) of three planes from a record's parts, where its neighbours have these marks, if those that it waits for are done, as `ready`
+// says.
 pub fn rebuild(
     x: u32,
     y: u32,

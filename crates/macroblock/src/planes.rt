@@ -91,7 +91,8 @@ fn block_16x16(plane: &mut [u8], spot: Spot, modes: &[u8], residuals: &[i16], co
     requires { ⌜ LumaReady 2 spot (length (now plane)) (now modes) (now residuals) ⌝ }
     requires { ⌜ Coded (now residuals) (now coded) ⌝ }
     ensures { λ _. ⌜ ((numbers : List ℤ) → Transformed 0 numbers (now (residuals .entry)) → now (plane .exit)
-        ≡ part (whole 16) (lumaRule 2 (now (modes .entry)) numbers) (spot .strides .luma) (spot .x) (spot .y) (marksOf (spot .marks)) 0 (now (plane .entry))) ⌝ }
+        ≡ part (whole 16) (lumaRule 2 (now (modes .entry)) numbers) (spot .strides .luma) (spot .x) (spot .y) (marksOf (spot .marks)) 0
+        (now (plane .entry))) ⌝ }
 {
     let place = Place {
         stride: spot.strides.luma,
