@@ -1,5 +1,5 @@
--- The run of a block's neighbours and its means, as their functions leave them. Assumes nothing.
-use mathlib.Core.Path.{_≡_, refl, sym, ap, _∙_}
+-- The run of a block's neighbours, as its function leaves it. Assumes nothing.
+use mathlib.Core.Path.{_≡_, ap, _∙_}
 use mathlib.Core.List.{List}
 use Prim.Native.Nat.{ℕ, zero, suc, _+_, _-_, _*_, _≤_, _<_}
 use native.Mathlib.Omega.{arith}
@@ -9,7 +9,7 @@ use lib.Seq.{getD-set-same, getD-set-other}
 use borrow.Author.Count.{below-more}
 use Rattle.basics.specs.Near.{Near, near}
 use Rattle.basics.proofs.Near.{near-above, near-left}
-use Rattle.intra_nxn.specs.inner.Run.{Run, Means, meanRound, meanFrom}
+use Rattle.intra_nxn.specs.inner.Run.{Run}
 
 -- ---- the run under way: k samples left, and k of either half above
 pub record Laid (n : ℕ) (top left : List ℕ) (k : ℕ) (e : List ℕ) : Type 0 where
@@ -98,61 +98,3 @@ module _ (n : ℕ) (top left : List ℕ) (high : n ≤ 8) where
       down (suc j) h =
           ap (λ (z : ℕ). getD e₃ z 0) (omega arith) ∙ other (62 - j) (omega arith) (omega arith) (omega arith) ∙ g .lefts j (omega arith)
           ∙ near-left top left corner j (suc j) (omega arith)
-
--- ---- the means under way: those of the places below k, and the run as it was
-pub record Filling (n : ℕ) (e : List ℕ) (k : ℕ) (t : List ℕ) : Type 0 where
-  pub size : length t ≡ 81
-  pub run : (i : ℕ) → 54 ≤ i → getD t i 0 ≡ getD e i 0
-  pub three : (m : ℕ) → m < k → 9 ≤ m + n → getD t (2 * m) 0 ≡ meanRound e m
-  pub two : (m : ℕ) → m < k → 9 ≤ m + n → getD t (2 * m + 1) 0 ≡ meanFrom e m
-
-module _ (n : ℕ) (e : List ℕ) where
-  pub filling-none : n ≤ 8 → length e ≡ 81 → Filling n e (9 - n) e
-  filling-none high size = record { size = size; run = λ i l. refl; three = λ m l h. absurd (omega arith); two = λ m l h. absurd (omega arith) }
-
-  pub filling-more : (k : ℕ) (t : List ℕ) (u v : ℕ) → 1 ≤ k → k < 27 → u ≡ meanRound t k
-      → v ≡ meanFrom (set t (2 * k) u) k
-      → Filling n e k t → Filling n e (k + 1) (set (set t (2 * k) u) (2 * k + 1) v)
-  filling-more k t u v some small hu hv f =
-      record {
-        size = simp length-set (f .size);
-        run = λ i l. other i (omega arith) (omega arith) ∙ f .run i l;
-        three = below-more (λ m. 9 ≤ m + n → getD t₂ (2 * m) 0 ≡ meanRound e m) k
-            (λ m l h. other (2 * m) (omega arith) (omega arith) ∙ f .three m l h)
-            (λ _. getD-set-other t₁ (2 * k + 1) (2 * k) v 0 (omega arith) ∙ getD-set-same t (2 * k) u 0 (omega (arith, f .size)) ∙ hu
-            ∙ rw (f .run (53 + k) (omega arith), f .run (54 + k) (omega arith), f .run (55 + k) (omega arith)));
-        two = below-more (λ m. 9 ≤ m + n → getD t₂ (2 * m + 1) 0 ≡ meanFrom e m) k
-            (λ m l h. other (2 * m + 1) (omega arith) (omega arith) ∙ f .two m l h)
-            (λ _. getD-set-same t₁ (2 * k + 1) v 0 (simp length-set (omega (arith, f .size))) ∙ hv
-            ∙ rw (still (54 + k) (omega arith) (omega arith), still (55 + k) (omega arith) (omega arith)));
-      }
-    where
-      t₁ : List ℕ
-      t₁ = set t (2 * k) u
-
-      t₂ : List ℕ
-      t₂ = set t₁ (2 * k + 1) v
-
-      other : (i : ℕ) → (i ≡ 2 * k → ⊥) → (i ≡ 2 * k + 1 → ⊥) → getD t₂ i 0 ≡ getD t i 0
-      other i a b = getD-set-other t₁ (2 * k + 1) i v 0 b ∙ getD-set-other t (2 * k) i u 0 a
-
-      still : (i : ℕ) → 54 ≤ i → (i ≡ 2 * k → ⊥) → getD t₁ i 0 ≡ getD e i 0
-      still i l a = getD-set-other t (2 * k) i u 0 a ∙ f .run i l
-
-  -- all of them: the run is kept, and the means are there
-  pub run-kept : (k : ℕ) (t : List ℕ) → n ≤ 8 → Filling n e k t → (p : Near) → Run n p e → Run n p t
-  run-kept k t high f p r =
-      record {
-        size = f .size;
-        above = λ i h. f .run (63 + i) (omega arith) ∙ r .above i h;
-        left = λ j h. f .run (63 - j) (omega arith) ∙ r .left j h;
-        last-above = f .run (64 + 2 * n) (omega arith) ∙ r .last-above;
-        last-left = f .run (62 - n) (omega arith) ∙ r .last-left;
-      }
-
-  pub means-there : (t : List ℕ) → Filling n e (10 + 2 * n) t → n ≤ 8 → Means n t
-  means-there t f high =
-      record {
-        three = λ k a b. f .three k (omega arith) a ∙ sym (rw (f .run (53 + k) (omega arith), f .run (54 + k) (omega arith), f .run (55 + k) (omega arith)));
-        two = λ k a b. f .two k (omega arith) a ∙ sym (rw (f .run (54 + k) (omega arith), f .run (55 + k) (omega arith)));
-      }

@@ -1,17 +1,22 @@
-// Intra 4x4 luma prediction (clause 8.3.1.2): each sample is picked from the place of a list where its mean stands.
+// Intra 4x4 luma prediction (clause 8.3.1.2): every row is a piece of a line, copied as a whole.
 ghost use mathlib.Core.Path.{_≡_};
 ghost use mathlib.Core.Bool.{Bool};
-ghost use Prim.Native.Nat.{_≤_, _<_};
+ghost use Prim.Native.Nat.{_≤_};
 ghost use lib.ListN.{length, replicate};
 ghost use Rattle.laws.specs.Answer.{written};
 ghost use Rattle.laws.specs.Table.{blockOf};
 ghost use Rattle.basics.specs.Marks.{permittedNxN, modeAnswer, predAnswer};
 ghost use Rattle.basics.specs.Near.{Near, near};
 ghost use Rattle.intra_nxn.specs.IntraNxN.{predNxN, pred4x4L};
-ghost use Rattle.intra_nxn.specs.inner.Run.{Run, Means, PlaceOf};
+ghost use Rattle.intra_nxn.specs.inner.Run.{Run};
+use super::lines::above_line;
+use super::lines::along;
+use super::lines::down_line;
+use super::lines::right_line;
+use super::lines::up_line;
+use super::rows::beside;
+use super::rows::slide;
 use super::run::dc_of;
-use super::run::mean2;
-use super::run::mean3;
 use super::run::run_of;
 use basics::fill::fill;
 use basics::marks::lists_answer;
@@ -77,88 +82,64 @@ pub fn intra4x4_pred_into(
     if answer != 0 {
         return answer;
     }
-    let e = run_of(4, top, left, corner);
-    draw4(mode, avail_top, avail_left, e, out);
+    let e = run_of(4, &top[..8], &left[..4], corner);
+    draw4(mode, avail_top, avail_left, &e, out);
     0
 }
 
 // The 4x4 block of a mode, from the run.
-fn draw4(mode: u8, above: bool, left: bool, e: [u8; 81], out: &mut [u8])
+fn draw4(mode: u8, above: bool, left: bool, e: &[u8; 81], out: &mut [u8])
     requires { ⌜ (mode ≤ 8) × (length (now out) ≡ 16) ⌝ }
-    ensures { λ _. ⌜ ((p : Near) → Run 4 p e → now (out .exit) ≡ blockOf 4 (predNxN 4 mode above left p)) ⌝ }
+    ensures { λ _. ⌜ ((p : Near) → Run 4 p (now (e .entry)) → now (out .exit) ≡ blockOf 4 (predNxN 4 mode above left p)) ⌝ }
 {
-    if mode == 2 {
-        let v = dc_of(4, &e, above, left);
-        fill(v, &mut out[0..16]);
+    if mode < 1 {
+        let line = above_line(e);
+        slide(4, &line, 0, &line, 0, 0, 0, out);
         return;
     }
-    let t = with_means(mode, e);
-    fill4(mode, &t, out);
-}
-
-// The same for a mode but DC, each sample picked from its place.
-fn fill4(mode: u8, t: &[u8; 81], out: &mut [u8])
-    requires { ⌜ (mode ≤ 8) × (mode ≡ 2 → ⊥) × (length (now out) ≡ 16) ⌝ }
-    ensures { λ _. ⌜ ((p : Near) (a l : Bool) → Run 4 p (now (t .entry)) → (2 < mode → Means 4 (now (t .entry)))
-        → now (out .exit) ≡ blockOf 4 (predNxN 4 mode a l p)) ⌝ }
-{
-    for y in 0..4 {
-        for x in 0..4 {
-            let i = place_of(mode, x, y);
-            out[y * 4 + x] = t[i];
-        }
-    }
-}
-
-// Where the sample in column x and row y stands, in a mode but DC.
-fn place_of(mode: u8, x: usize, y: usize) -> usize
-    requires { ⌜ (x < 4) × (y < 4) ⌝ }
-    ensures { λ r. ⌜ PlaceOf mode x y r ⌝ }
-{
-    if mode > 6 {
-        if mode < 8 {
-            return 21 + 2 * x + y;
-        }
-        if x + 2 * y <= 5 {
-            return 15 - (x + 2 * y);
-        }
-        return 59;
-    }
-    if mode > 3 {
-        if mode < 5 {
-            return 18 + 2 * x - 2 * y;
-        }
-        if mode < 6 {
-            if y <= 2 * x + 1 {
-                return 19 + 2 * x - y;
-            }
-            return 20 + 4 * x - 2 * y;
-        }
-        if x <= 2 * y + 1 {
-            return 17 + x - 2 * y;
-        }
-        return 16 + 2 * x - 4 * y;
-    }
-    if mode < 1 {
-        return 64 + x;
-    }
     if mode < 2 {
-        return 62 - y;
+        beside(4, e, out);
+        return;
     }
-    22 + 2 * (x + y)
+    if mode < 3 {
+        fill(dc_of(4, e, above, left), &mut out[0..16]);
+        return;
+    }
+    slant4(mode, e, out);
 }
 
-// The run with its means, for the modes that take them.
-fn with_means(mode: u8, e: [u8; 81]) -> [u8; 81]
-    ensures { λ r. ⌜ ((p : Near) → Run 4 p e → Run 4 p r) × (2 < mode → Means 4 r) ⌝ }
+// The modes from 3 on, from the means of the run.
+fn slant4(mode: u8, e: &[u8; 81], out: &mut [u8])
+    requires { ⌜ (3 ≤ mode) × (mode ≤ 8) × (length (now out) ≡ 16) ⌝ }
+    ensures { λ _. ⌜ ((p : Near) (above left : Bool) → Run 4 p (now (e .entry)) → now (out .exit) ≡ blockOf 4 (predNxN 4 mode above left p)) ⌝ }
 {
-    let mut t = e;
-    if mode < 2 {
-        return t;
+    if mode < 4 {
+        let line = along(e, 11, 7, true);
+        slide(4, &line, 0, &line, 1, 2, 0, out);
+        return;
     }
-    for k in 5..18 {
-        t[2 * k] = mean3(t[53 + k], t[54 + k], t[55 + k]);
-        t[2 * k + 1] = mean2(t[54 + k], t[55 + k]);
+    if mode < 5 {
+        let line = along(e, 6, 7, true);
+        slide(4, &line, 3, &line, 2, 0, 2, out);
+        return;
     }
-    t
+    if mode < 6 {
+        let even = right_line(4, e, 8, false);
+        let odd = right_line(4, e, 7, true);
+        slide(4, &even, 1, &odd, 1, 0, 1, out);
+        return;
+    }
+    if mode < 7 {
+        let line = down_line(4, e);
+        slide(4, &line, 6, &line, 4, 0, 4, out);
+        return;
+    }
+    if mode < 8 {
+        let even = along(e, 10, 5, false);
+        let odd = along(e, 11, 5, true);
+        slide(4, &even, 0, &odd, 0, 1, 0, out);
+        return;
+    }
+    let line = up_line(4, e);
+    slide(4, &line, 0, &line, 2, 4, 0, out);
 }

@@ -1,19 +1,22 @@
 // Intra 8x8 luma prediction (clause 8.3.2.2): every row is a piece of a line, copied as a whole.
 ghost use mathlib.Core.Path.{_≡_};
 ghost use mathlib.Core.Bool.{Bool};
-ghost use Prim.Native.Nat.{_+_, _-_, _*_, _/_, _%_, _≤_};
-ghost use lib.ListN.{length, getD, replicate};
+ghost use Prim.Native.Nat.{_≤_};
+ghost use lib.ListN.{length, replicate};
 ghost use Rattle.laws.specs.Answer.{written};
-ghost use Rattle.laws.specs.Table.{blockOf, onto};
+ghost use Rattle.laws.specs.Table.{blockOf};
 ghost use Rattle.basics.specs.Marks.{permittedNxN, modeAnswer, predAnswer};
 ghost use Rattle.basics.specs.Near.{Near, near};
 ghost use Rattle.intra_nxn.specs.IntraNxN.{predNxN, pred8x8L};
-ghost use Rattle.intra_nxn.specs.inner.Run.{Run, slid};
+ghost use Rattle.intra_nxn.specs.inner.Run.{Run};
 use super::filter::filtered_of;
+use super::lines::above_line;
 use super::lines::along;
 use super::lines::down_line;
 use super::lines::right_line;
 use super::lines::up_line;
+use super::rows::beside;
+use super::rows::slide;
 use super::run::dc_of;
 use super::run::run_of;
 use basics::fill::fill;
@@ -80,7 +83,7 @@ pub fn intra8x8_pred_into(
     if answer != 0 {
         return answer;
     }
-    let raw = run_of(8, top, left, corner);
+    let raw = run_of(8, &top[..16], &left[..8], corner);
     let e = filtered_of(&raw, avail_top, avail_left, avail_corner);
     draw8(mode, avail_top, avail_left, &e, out);
     0
@@ -92,11 +95,12 @@ fn draw8(mode: u8, above: bool, left: bool, e: &[u8; 81], out: &mut [u8])
     ensures { λ _. ⌜ ((p : Near) → Run 8 p (now (e .entry)) → now (out .exit) ≡ blockOf 8 (predNxN 8 mode above left p)) ⌝ }
 {
     if mode < 1 {
-        above8(e, out);
+        let line = above_line(e);
+        slide(8, &line, 0, &line, 0, 0, 0, out);
         return;
     }
     if mode < 2 {
-        beside8(e, out);
+        beside(8, e, out);
         return;
     }
     if mode < 3 {
@@ -114,93 +118,29 @@ fn slant8(mode: u8, e: &[u8; 81], out: &mut [u8])
     if mode < 5 {
         let line = along(e, 0, 26, true);
         if mode < 4 {
-            slide(&line, 11, &line, 12, 2, 0, out);
+            slide(8, &line, 11, &line, 12, 2, 0, out);
             return;
         }
-        slide(&line, 9, &line, 8, 0, 2, out);
+        slide(8, &line, 9, &line, 8, 0, 2, out);
         return;
     }
     if mode < 6 {
-        let even = right_line(e, 4, false);
-        let odd = right_line(e, 3, true);
-        slide(&even, 3, &odd, 3, 0, 1, out);
+        let even = right_line(8, e, 4, false);
+        let odd = right_line(8, e, 3, true);
+        slide(8, &even, 3, &odd, 3, 0, 1, out);
         return;
     }
     if mode < 7 {
-        let line = down_line(e);
-        slide(&line, 14, &line, 12, 0, 4, out);
+        let line = down_line(8, e);
+        slide(8, &line, 14, &line, 12, 0, 4, out);
         return;
     }
     if mode < 8 {
         let even = along(e, 10, 11, false);
         let odd = along(e, 11, 11, true);
-        slide(&even, 0, &odd, 0, 1, 0, out);
+        slide(8, &even, 0, &odd, 0, 1, 0, out);
         return;
     }
-    let line = up_line(e);
-    slide(&line, 0, &line, 2, 4, 0, out);
-}
-
-// Eight rows, each a window of a line: row 2z is of `even` and row 2z + 1 of `odd`. The first two start at a and b, and each two after them `up` places
-// further on or `back` places back.
-fn slide(
-    even: &[u8; 32],
-    a: usize,
-    odd: &[u8; 32],
-    b: usize,
-    up: usize,
-    back: usize,
-    out: &mut [u8],
-)
-    requires { ⌜ (3 * back ≤ a) × (3 * back ≤ b) × (a + 3 * up ≤ 24) × (b + 3 * up ≤ 24) × (64 ≤ length (now out)) ⌝ }
-    ensures { λ _. ⌜ now (out .exit)
-        ≡ onto 64 (λ k. slid (now (even .entry)) a (now (odd .entry)) b up back (k % 8) (k / 8)) (now (out .entry)) ⌝ }
-{
-    for z in 0..4 {
-        window(even, moved(a, up, back, z), &mut out[16 * z..]);
-        window(odd, moved(b, up, back, z), &mut out[16 * z + 8..]);
-    }
-}
-
-fn moved(at: usize, up: usize, back: usize, z: usize) -> usize
-    requires { ⌜ (z ≤ 3) × (3 * back ≤ at) × (at + 3 * up ≤ 24) ⌝ }
-    ensures { λ r. ⌜ (r ≡ at + up * z - back * z) × (r ≤ 24) ⌝ }
-{
-    at + up * z - back * z
-}
-
-// Eight samples of a line, from `at` on.
-fn window(line: &[u8; 32], at: usize, row: &mut [u8])
-    requires { ⌜ (at ≤ 24) × (8 ≤ length (now row)) ⌝ }
-    ensures { λ _. ⌜ now (row .exit) ≡ onto 8 (λ i. getD (now (line .entry)) (at + i) 0) (now (row .entry)) ⌝ }
-{
-    for i in 0..8 {
-        row[i] = line[at + i];
-    }
-}
-
-// Eight rows, each the line above the block.
-fn above8(e: &[u8; 81], out: &mut [u8])
-    requires { ⌜ length (now out) ≡ 64 ⌝ }
-    ensures { λ _. ⌜ now (out .exit) ≡ blockOf 8 (λ x _. getD (now (e .entry)) (64 + x) 0) ⌝ }
-{
-    let mut row = [0u8; 8];
-    for i in 0..8 {
-        row[i] = e[64 + i];
-    }
-    for y in 0..8 {
-        for x in 0..8 {
-            out[y * 8 + x] = row[x];
-        }
-    }
-}
-
-// Eight rows, each its sample to the left.
-fn beside8(e: &[u8; 81], out: &mut [u8])
-    requires { ⌜ 64 ≤ length (now out) ⌝ }
-    ensures { λ _. ⌜ now (out .exit) ≡ onto 64 (λ k. getD (now (e .entry)) (62 - k / 8) 0) (now (out .entry)) ⌝ }
-{
-    for y in 0..8 {
-        fill(e[62 - y], &mut out[8 * y..8 * y + 8]);
-    }
+    let line = up_line(8, e);
+    slide(8, &line, 0, &line, 2, 4, 0, out);
 }

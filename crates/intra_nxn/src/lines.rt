@@ -1,13 +1,24 @@
-// The lines of means whose windows are the rows of an 8x8 block in the modes from 3 on (clauses 8.3.2.2.5 to 8.3.2.2.10). Each mode makes its own, so
-// that the compiled code takes no mean that the mode does not show.
+// The lines whose windows are the rows of a block of side n: the samples above it, and in the modes from 3 on means of the run (clauses 8.3.1.2.4 to
+// 8.3.1.2.9 and 8.3.2.2.5 to 8.3.2.2.10). Each mode makes its own, so that the compiled code takes few means that the mode does not show.
 ghost use mathlib.Core.Path.{_≡_};
 ghost use mathlib.Core.Bool.{cond};
-ghost use Prim.Native.Nat.{_+_, _-_, _*_, _≤_, _<_};
+ghost use Prim.Native.Nat.{_+_, _-_, _*_, _/_, _≤_, _<_};
 ghost use lib.Dec.{ltb};
 ghost use lib.ListN.{getD};
-ghost use Rattle.intra_nxn.specs.inner.Run.{Line, meanRound, meanFrom, meanIn, pairs};
+ghost use Rattle.intra_nxn.specs.inner.Run.{Even, Line, meanRound, meanFrom, meanIn, pairs};
 use super::run::mean2;
 use super::run::mean3;
+
+// The first eight samples above a block.
+pub(crate) fn above_line(e: &[u8; 81]) -> [u8; 32]
+    ensures { λ r. ⌜ Line 8 (λ j. getD (now (e .entry)) (64 + j) 0) r ⌝ }
+{
+    let mut line = [0u8; 32];
+    for j in 0..8 {
+        line[j] = e[64 + j];
+    }
+    line
+}
 
 // The diagonals and Vertical left: along the run, from the given place on, the means of two, or of three, which the diagonals and odd rows take.
 pub(crate) fn along(e: &[u8; 81], first: usize, count: usize, odd: bool) -> [u8; 32]
@@ -23,46 +34,50 @@ pub(crate) fn along(e: &[u8; 81], first: usize, count: usize, odd: bool) -> [u8;
 
 // Vertical right: every other mean of three along the left side from the given place on, then along the row above the means of two in even rows and of
 // three in odd ones.
-pub(crate) fn right_line(e: &[u8; 81], first: usize, odd: bool) -> [u8; 32]
-    requires { ⌜ first ≤ 4 ⌝ }
-    ensures { λ r. ⌜ Line 11 (λ j. cond (ltb j 3) (meanRound (now (e .entry)) (first + 2 * j)) (meanIn odd (now (e .entry)) (6 + j))) r ⌝ }
+pub(crate) fn right_line(n: usize, e: &[u8; 81], first: usize, odd: bool) -> [u8; 32]
+    requires { ⌜ Even n × (first + n ≤ 12) ⌝ }
+    ensures { λ r. ⌜ Line (n / 2 - 1 + n) (λ j. cond (ltb j (n / 2 - 1)) (meanRound (now (e .entry)) (first + 2 * j))
+        (meanIn odd (now (e .entry)) (10 - n / 2 + j))) r ⌝ }
 {
     let mut line = [0u8; 32];
-    for j in 0..3 {
+    let m = n / 2 - 1;
+    for j in 0..m {
         line[j] = mean_round(e, first + 2 * j);
     }
-    for j in 3..11 {
-        line[j] = mean_in(odd, e, 6 + j);
+    for j in m..m + n {
+        line[j] = mean_in(odd, e, 10 - n / 2 + j);
     }
     line
 }
 
 // Horizontal down: the means of two and of three in turn up the left side, then those of three along the row above.
-pub(crate) fn down_line(e: &[u8; 81]) -> [u8; 32]
-    ensures { λ r. ⌜ Line 22 (pairs 16 (λ i. meanFrom (now (e .entry)) (1 + i)) (λ i. meanRound (now (e .entry)) (2 + i))
-        (λ j. meanRound (now (e .entry)) (j - 6))) r ⌝ }
+pub(crate) fn down_line(n: usize, e: &[u8; 81]) -> [u8; 32]
+    requires { ⌜ Even n ⌝ }
+    ensures { λ r. ⌜ Line (3 * n - 2) (pairs (2 * n) (λ i. meanFrom (now (e .entry)) (9 - n + i)) (λ i. meanRound (now (e .entry)) (10 - n + i))
+        (λ j. meanRound (now (e .entry)) (10 + j - 2 * n))) r ⌝ }
 {
     let mut line = [0u8; 32];
-    for i in 0..8 {
-        line[2 * i] = mean_from(e, 1 + i);
-        line[2 * i + 1] = mean_round(e, 2 + i);
+    for i in 0..n {
+        line[2 * i] = mean_from(e, 9 - n + i);
+        line[2 * i + 1] = mean_round(e, 10 - n + i);
     }
-    for j in 16..22 {
-        line[j] = mean_round(e, j - 6);
+    for j in 2 * n..3 * n - 2 {
+        line[j] = mean_round(e, 10 + j - 2 * n);
     }
     line
 }
 
 // Horizontal up: the means of two and of three in turn down the left side, then its last sample.
-pub(crate) fn up_line(e: &[u8; 81]) -> [u8; 32]
-    ensures { λ r. ⌜ Line 22 (pairs 14 (λ i. meanFrom (now (e .entry)) (7 - i)) (λ i. meanRound (now (e .entry)) (7 - i))
-        (λ _. getD (now (e .entry)) 55 0)) r ⌝ }
+pub(crate) fn up_line(n: usize, e: &[u8; 81]) -> [u8; 32]
+    requires { ⌜ Even n ⌝ }
+    ensures { λ r. ⌜ Line (3 * n - 2) (pairs (2 * n - 2) (λ i. meanFrom (now (e .entry)) (7 - i)) (λ i. meanRound (now (e .entry)) (7 - i))
+        (λ _. getD (now (e .entry)) (63 - n) 0)) r ⌝ }
 {
     let mut line = [0u8; 32];
-    for j in 14..22 {
-        line[j] = e[55];
+    for j in 2 * n - 2..3 * n - 2 {
+        line[j] = e[63 - n];
     }
-    for i in 0..7 {
+    for i in 0..n - 1 {
         line[2 * i] = mean_from(e, 7 - i);
         line[2 * i + 1] = mean_round(e, 7 - i);
     }

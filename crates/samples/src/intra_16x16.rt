@@ -103,7 +103,15 @@ pub fn luma16x16_pred_into(
     if answer != 0 {
         return answer;
     }
-    predict_16x16(mode, avail_top, avail_left, top, left, corner, out);
+    predict_16x16(
+        mode,
+        avail_top,
+        avail_left,
+        &top[..16],
+        &left[..16],
+        corner,
+        out,
+    );
     0
 }
 

@@ -87,7 +87,15 @@ pub fn chroma8x8_pred_into(
     if answer != 0 {
         return answer;
     }
-    predict_chroma(mode, avail_top, avail_left, top, left, corner, out);
+    predict_chroma(
+        mode,
+        avail_top,
+        avail_left,
+        &top[..8],
+        &left[..8],
+        corner,
+        out,
+    );
     0
 }
 

@@ -1,29 +1,33 @@
--- `intra_nxn::intra_4x4::draw4` meets its contract: DC is one sample everywhere, and every other mode is drawn from the run and its means. Assumes nothing.
+-- `intra_nxn::intra_4x4::draw4` meets its contract, mode by mode: vertical, horizontal, DC, and those that take means. Assumes nothing.
+use mathlib.Core.Path.{refl}
+use native.Mathlib.Omega.{arith}
 use denote.Ref.{now}
-use Rattle.basics.proofs.Fills.{fill-block}
-use Rattle.intra_nxn.specs.IntraNxN.{predNxN}
+use Rattle.intra_nxn.proofs.Slides.{vertical-rows, horizontal-rows, dc-rows}
 use borrow.Author.Needs.{needs}
 use Rattle.intra_nxn.proofs.intra_4x4.draw4.Statement.{statement}
 use Rattle.intra_nxn.proofs.intra_4x4.draw4.Tie as tie
 
 returns : tie.Need-returns
-unfolding predNxN
 returns c p run =
-    let d = c .before .before in
-    let v = d .before .before in
-    let t = v .before .before in
-    let z = t .before .before in
-    fill-block 4 _ (predNxN 4 (z .args .mode) (z .args .above) (z .args .left) p) (now (z .args .out)) (z .pre .1) (d .fill .ensures)
-    (λ x y. rw (t .if1 .taken) (v .dc-of .ensures p run))
+    let f = c .before .before .before .before .before .before in
+    let z = f .before .before .before in
+    vertical-rows 4 p _ (omega arith) (omega arith) refl run (z .args .above) (z .args .left) (now (z .args .out)) (z .pre .1) (omega arith) _ (f .above-line .ensures) (c .before .before .slide .ensures)
 
 returns-2 : tie.Need-returns-2
 returns-2 c p run =
-    let d = c .before .before in
-    let m = d .before .before .before .with-means .ensures in
-    d .fill4 .ensures p _ _ (m .0 p run) (m .1)
+    let z = c .before .before .before .before .before .before .before in
+    horizontal-rows 4 p _ (omega arith) (omega arith) refl run (z .args .above) (z .args .left) (now (z .args .out)) (z .pre .1) (omega arith) (c .before .before .beside .ensures)
+
+returns-3 : tie.Need-returns-3
+returns-3 c p run =
+    let v = c .before .before .before .before in
+    let z = v .before .before .before .before .before in
+    dc-rows 4 p _ (omega arith) (omega arith) refl run (z .args .above) (z .args .left) (now (z .args .out)) (z .pre .1) (omega arith) _ (v .dc-of .ensures p run) (c .before .before .fill .ensures)
+
+returns-4 : tie.Need-returns-4
+returns-4 c p run = c .before .before .slant4 .ensures p _ _ run
 
 pub draw4-spec : {M : Type 1} → statement M
 draw4-spec =
     tie.close
-    (tie.spec (λ c κs. search needs) (λ c. search needs) (λ c. search needs) (λ c. search needs) (λ c κs. search needs) (λ c. search needs) returns
-    (λ c κs. search needs) (λ c κs. search needs) (λ c. search needs) returns-2)
+    (tie.spec (λ c κs. search needs) (λ c κs. search needs) (λ c. search needs) returns (λ c κs. search needs) (λ c. search needs) returns-2 (λ c κs. search needs) (λ c. search needs) (λ c. search needs) (λ c. search needs) (λ c κs. search needs) (λ c. search needs) returns-3 (λ c κs. search needs) (λ c. search needs) returns-4)

@@ -1,8 +1,10 @@
 -- `intra_nxn::intra_8x8::intra8x8_pred_into` meets its contract: the answers in their order, and where both are 0, the block, drawn from the filtered run. Assumes nothing.
-use mathlib.Core.Path.{sym, _∙_}
+use mathlib.Core.Path.{_≡_, sym, ap, _∙_}
+use native.Mathlib.Omega.{arith}
 use denote.Ref.{now}
 use lib.Dec.{lit≤}
-use lib.ListN.{length}
+use lib.ListN.{length, take}
+use lib.Seq.{take-all}
 use Rattle.laws.proofs.Answers.{refused}
 use Rattle.basics.specs.Marks.{permittedNxN}
 use Rattle.basics.proofs.Modes.{Answered, unanswered, answered}
@@ -28,21 +30,38 @@ returns c =
 returns-2 : tie.Need-returns-2
 returns-2 c = (said (c .before) .is, sym (refused _ _ _ (c .if2 .taken)))
 
+-- the lists are lent as they are
+whole : (c : tie.After-mode-answer) → let a = c .before .before .before .before .before .before .before .args in
+    (take 16 (now (a .top)) ≡ now (a .top)) × (take 8 (now (a .left)) ≡ now (a .left))
+whole c = let s = said c in (take-all 16 _ (omega (arith, s .top-is)), take-all 8 _ (omega (arith, s .left-is)))
+
+slice-aggregate-run-of : tie.Need-slice-aggregate-run-of
+slice-aggregate-run-of c = let m = c .before .before in omega (arith, ap length (whole m .0), said m .top-is)
+
+slice-aggregate-run-of-2 : tie.Need-slice-aggregate-run-of-2
+slice-aggregate-run-of-2 c = let m = c .before .before .before in omega (arith, ap length (whole m .1), said m .left-is)
+
 run-of-requires : tie.Need-run-of-requires
-run-of-requires c κs = let s = said (c .before) in (lit≤ tt, lit≤ tt, s .top-is, s .left-is)
+run-of-requires c κs =
+    let e = c .before .before in
+    let s = said (e .before) in
+    let w = whole (e .before) in
+    (lit≤ tt, lit≤ tt, ap length (w .0) ∙ s .top-is, ap length (w .1) ∙ s .left-is)
 
 draw8-requires : tie.Need-draw8-requires
-draw8-requires c κs = let n = c .before .before .before .before .before in let s = said (n .before) in (s .known (n .if2 .left), s .out-is)
+draw8-requires c κs = let e = c .before .before .before .before .before .before .before in let s = said (e .before) in (s .known (e .if2 .left), s .out-is)
 
 returns-3 : tie.Need-returns-3
 returns-3 c =
     let d = c .before .before in
     let f = d .before .before .before in
-    let e = f .before .before in
-    (sym (e .before .if2 .left) ∙ said (e .before .before) .is, d .draw8 .ensures _ (f .filtered-of .ensures _ (e .run-of .ensures)))
+    let r = f .before .before in
+    let e = r .before .before .before in
+    let w = whole (e .before) in
+    (sym (e .if2 .left) ∙ said (e .before) .is, d .draw8 .ensures _ (f .filtered-of .ensures _ (rw (w .0, w .1) at (r .run-of .ensures))))
 
 pub intra8x8-pred-into-spec : {M : Type 1} → statement M
 intra8x8-pred-into-spec =
     tie.close
-    (tie.spec (λ c κs. search needs) returns (λ c κs. search needs) (λ c κs. search needs) returns-2 run-of-requires (λ c κs. search needs)
+    (tie.spec (λ c κs. search needs) returns (λ c κs. search needs) (λ c κs. search needs) returns-2 slice-aggregate-run-of slice-aggregate-run-of-2 run-of-requires (λ c κs. search needs)
     draw8-requires (λ c. search needs) returns-3)

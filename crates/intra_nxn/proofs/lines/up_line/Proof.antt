@@ -13,18 +13,19 @@ use Rattle.intra_nxn.proofs.lines.up_line.Statement.{statement}
 use Rattle.intra_nxn.proofs.lines.up_line.Tie as tie
 
 abbrev Inv-loop : tie.InvT-loop
-Inv-loop e line₀ j₀ line j = (14 ≤ j) × (j ≤ 22) × (length line ≡ 32) × ((k : ℕ) → k < j → 14 ≤ k → getD line k 0 ≡ getD e 55 0)
+Inv-loop n e line₀ j₀ end line j =
+    (2 * n - 2 ≤ j) × (j ≤ 3 * n - 2) × (length line ≡ 32) × ((k : ℕ) → k < j → 2 * n - 2 ≤ k → getD line k 0 ≡ getD e (63 - n) 0)
 
 abbrev μ-loop : tie.MeasureT-loop
-μ-loop e line₀ j₀ line j = 22 - j
+μ-loop n e line₀ j₀ end line j = 3 * n - 2 - j
 
 abbrev Inv-loop2 : tie.InvT-loop2
-Inv-loop2 e line₀ i₀ line i =
-    (i ≤ 7) × Line (2 * i) (pairs 14 (λ k. meanFrom e (7 - k)) (λ k. meanRound e (7 - k)) (λ _. getD e 55 0)) line
-    × ((k : ℕ) → k < 22 → 14 ≤ k → getD line k 0 ≡ getD e 55 0)
+Inv-loop2 n e line₀ i₀ end line i =
+    (i ≤ n - 1) × Line (2 * i) (pairs (2 * n - 2) (λ k. meanFrom e (7 - k)) (λ k. meanRound e (7 - k)) (λ _. getD e (63 - n) 0)) line
+    × ((k : ℕ) → k < 3 * n - 2 → 2 * n - 2 ≤ k → getD line k 0 ≡ getD e (63 - n) 0)
 
 abbrev μ-loop2 : tie.MeasureT-loop2
-μ-loop2 e line₀ i₀ line i = 7 - i
+μ-loop2 n e line₀ i₀ end line i = n - 1 - i
 
 loop-holds : tie.Need-loop-holds Inv-loop μ-loop Inv-loop2 μ-loop2
 loop-holds c = (omega arith, omega arith, refl, λ k a b. absurd (omega arith))
@@ -45,19 +46,18 @@ loop2-again : tie.Need-loop2-again Inv-loop μ-loop Inv-loop2 μ-loop2
 loop2-again c =
     let l = c .before .before .before .loop2 in (
       omega arith,
-      pair-more 14 _ _ _ (l .i) (l .line) (omega arith) (omega arith) (l .inv .1) (c .before .mean-from .ensures) (c .mean-round .ensures),
+      pair-more (2 * c .before .before .before .before .before .before .args .n - 2) _ _ _ (l .i) (l .line) (omega arith) (omega arith) (l .inv .1) (c .before .mean-from .ensures) (c .mean-round .ensures),
       λ k a b. getD-set-other (set (l .line) (2 * l .i) _) (2 * l .i + 1) k _ 0 (omega arith) ∙ getD-set-other (l .line) (2 * l .i) k _ 0 (omega arith) ∙ l .inv .2 k a b,
     )
 
 returns : tie.Need-returns Inv-loop μ-loop Inv-loop2 μ-loop2
 returns c =
     let l = c .before .loop2 in
-    let e : l .i ≡ 7 = omega arith in
-    past-all 14 22 _ _ _ (l .line) (rw e at (l .inv .1)) (λ k a b. l .inv .2 k b a)
+    let n = c .before .before .before .before .args .n in
+    let e : 2 * l .i ≡ 2 * n - 2 = omega arith in
+    past-all (2 * n - 2) (3 * n - 2) _ _ _ (l .line) (rw e at (l .inv .1)) (λ k a b. l .inv .2 k b a)
 
 pub up-line-spec : {M : Type 1} → statement M
 up-line-spec =
     tie.close
-    (tie.spec Inv-loop μ-loop Inv-loop2 μ-loop2 loop-holds (λ c. search needs) (λ c. search needs) (λ c. search needs) (λ c. search needs) loop-again
-    loop2-holds (λ c. search needs) (λ c κs. search needs) (λ c. search needs) (λ c. search needs) (λ c. search needs) (λ c κs. search needs)
-    (λ c. search needs) (λ c. search needs) (λ c. search needs) (λ c. search needs) (λ c. search needs) loop2-again returns)
+    (tie.spec Inv-loop μ-loop Inv-loop2 μ-loop2 (λ c. search needs) (λ c. search needs) (λ c. search needs) (λ c. search needs) loop-holds (λ c. search needs) (λ c. search needs) (λ c. search needs) (λ c. search needs) (λ c. search needs) loop-again (λ c. search needs) loop2-holds (λ c. search needs) (λ c κs. search needs) (λ c. search needs) (λ c. search needs) (λ c. search needs) (λ c κs. search needs) (λ c. search needs) (λ c. search needs) (λ c. search needs) (λ c. search needs) (λ c. search needs) loop2-again returns)

@@ -1,12 +1,12 @@
--- `intra_nxn::intra_8x8::moved` meets its contract: three steps at most stay in reach. Assumes nothing.
+-- `intra_nxn::rows::moved` meets its contract: no step leaves the line. Assumes nothing.
 use mathlib.Core.Path.{refl}
-use Prim.Native.Nat.{_*_, _≤_}
+use Prim.Native.Nat.{_*_, _/_, _-_, _≤_}
 use native.Mathlib.Nat.{mul-le-mul-left}
 use native.Mathlib.Omega.{arith}
-use Rattle.intra_nxn.proofs.intra_8x8.moved.Statement.{statement}
-use Rattle.intra_nxn.proofs.intra_8x8.moved.Tie as tie
+use Rattle.intra_nxn.proofs.rows.moved.Statement.{statement}
+use Rattle.intra_nxn.proofs.rows.moved.Tie as tie
 
-steps : (c : tie.Start) → (c .args .up * c .args .z ≤ c .args .up * 3) × (c .args .back * c .args .z ≤ c .args .back * 3)
+steps : (c : tie.Start) → let a = c .args in (a .up * a .z ≤ a .up * (a .n / 2 - 1)) × (a .back * a .z ≤ a .back * (a .n / 2 - 1))
 steps c = (mul-le-mul-left (c .args .up) (c .pre .0), mul-le-mul-left (c .args .back) (c .pre .0))
 
 mul-result : tie.Need-mul-result

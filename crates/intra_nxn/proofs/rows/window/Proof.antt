@@ -1,4 +1,4 @@
--- `intra_nxn::intra_8x8::window` meets its contract. After i turns the first i bytes are the line's. Assumes nothing.
+-- `intra_nxn::rows::window` meets its contract. After i turns the first i bytes are the line's. Assumes nothing.
 use mathlib.Core.Path.{_≡_, refl}
 use Prim.Native.Nat.{_+_, _-_, _≤_}
 use native.Mathlib.Omega.{arith}
@@ -6,14 +6,14 @@ use lib.ListN.{length, getD, length-set}
 use Rattle.laws.specs.Table.{onto}
 use Rattle.laws.proofs.Ontos.{onto-none, onto-more}
 use borrow.Author.Needs.{needs}
-use Rattle.intra_nxn.proofs.intra_8x8.window.Statement.{statement}
-use Rattle.intra_nxn.proofs.intra_8x8.window.Tie as tie
+use Rattle.intra_nxn.proofs.rows.window.Statement.{statement}
+use Rattle.intra_nxn.proofs.rows.window.Tie as tie
 
 abbrev Inv-loop : tie.InvT-loop
-Inv-loop line at row₀ i₀ row i = (i ≤ 8) × (length row ≡ length row₀) × (row ≡ onto i (λ k. getD line (at + k) 0) row₀)
+Inv-loop n line at row₀ i₀ row i = (i ≤ n) × (length row ≡ length row₀) × (row ≡ onto i (λ k. getD line (at + k) 0) row₀)
 
 abbrev μ-loop : tie.MeasureT-loop
-μ-loop line at row₀ i₀ row i = 8 - i
+μ-loop n line at row₀ i₀ row i = n - i
 
 loop-holds : tie.Need-loop-holds Inv-loop μ-loop
 loop-holds c = (omega arith, refl, onto-none _ _)
@@ -25,7 +25,7 @@ loop-again c =
 
 returns : tie.Need-returns Inv-loop μ-loop
 returns c =
-    let e : c .before .loop .i ≡ 8 = omega arith in
+    let e : c .before .loop .i ≡ c .before .before .args .n = omega arith in
     rw e at (c .before .loop .inv .2)
 
 pub window-spec : {M : Type 1} → statement M
