@@ -5,7 +5,8 @@ use mathlib.Core.Bool.{Bool}
 use mathlib.Core.List.{List, [], _∷_, _++_}
 use Prim.Native.Nat.{ℕ, _≤_, _<_}
 use native.Mathlib.Omega.{arith}
-use lib.ListN.{length}
+use lib.Dec.{lit<}
+use lib.ListN.{length, length-set}
 use Rattle.laws.specs.Answer.{answer, written}
 use Rattle.laws.proofs.Answers.{put, refused}
 use Rattle.maps.specs.Done.{allSettled}
@@ -22,7 +23,6 @@ use Rattle.calls.proofs.AnyOrder.{any-order}
 use Rattle.calls.proofs.Rebuilt.{refused-first, refused-late, taken, lent-same, lent-rebuilt}
 use Rattle.calls.proofs.Rules.{Passed, passed-is, readyNow, lateRules}
 use Rattle.calls.proofs.Squares.{by-macroblock}
-use borrow.Author.Needs.{needs}
 use Rattle.picture.proofs.rebuild.Statement.{statement}
 use Rattle.picture.proofs.rebuild.Tie as tie
 
@@ -36,7 +36,7 @@ abbrev held : tie.Start → Lent
 held s = let a = s .args in lent (a .luma .now) (a .cb .now) (a .cr .now) (a .done .now) (progressOf (a .progress .now))
 
 -- the ways back: from the first refusals and from where they are ruled out; from the marks, from whether it is ready, and from where the macroblock call has
--- answered
+-- answered, with a refusal or not; and from where the accepted macroblock is counted
 abbrev begin : tie.After-refuse → tie.Start
 begin c = c .before .before .before .before .before .before .before .before .before .before .before .before .before .before
 
@@ -55,8 +55,14 @@ tested c = c .before .before .before .before
 abbrev asked : tie.After-rebuild → tie.Else1
 asked c = ruled-out (looked (tested c))
 
+abbrev declined : tie.Then2 → tie.After-rebuild
+declined c = c .before .before .before .before .before .before .before
+
 abbrev called : tie.Else2 → tie.After-rebuild
 called c = c .before .before .before .before .before .before .before
+
+abbrev agreed : tie.After-accepted → tie.Else2
+agreed c = c .before .before .before .before
 
 -- the record's lists are as long as the test says
 long : (c : tie.After-refuse) → let a = begin c .args in listsGood (recordOf (a .kind) (a .modes .now) (a .chroma-mode) (a .numbers .now)) ≡ c .before .before .before .before .before .both .result
@@ -108,7 +114,7 @@ returns c = let s = begin (c .before) in (refused-first (given s) (held s) (earl
 
 returns-2 : tie.Need-returns-2
 returns-2 c =
-    let d = c .before .before .before .before .before .before .before in
+    let d = declined c in
     let e = asked d in
     let a = start e .args in
     let q = d .rebuild .ensures in
@@ -137,7 +143,7 @@ mul-accepted c = omega (arith, within (asked (called (c .before .before .before)
 
 returns-3 : tie.Need-returns-3
 returns-3 c =
-    let f = c .before .before .before .before in
+    let f = agreed c in
     let d = called f in
     let e = asked d in
     let a = start e .args in
@@ -155,66 +161,68 @@ returns-3 c =
       any-order,
     )
 
--- what the search finds, need by need
+-- the progress record has both of its numbers
 element-copy-out-here : tie.Need-element-copy-out-here
-element-copy-out-here c = search needs
+element-copy-out-here c = lit< tt
 
 element-copy-out-accepted : tie.Need-element-copy-out-accepted
-element-copy-out-accepted c = search needs
+element-copy-out-accepted c = lit< tt
 
+-- no call asks for anything
 both-requires : tie.Need-both-requires
-both-requires c κs = search needs
+both-requires c κs = tt
 
 refuse-requires : tie.Need-refuse-requires
-refuse-requires c κs = search needs
-
-same-length : tie.Need-same-length
-same-length c = search needs
-
-same-length-2 : tie.Need-same-length-2
-same-length-2 c = search needs
-
-same-length-3 : tie.Need-same-length-3
-same-length-3 c = search needs
-
-same-length-4 : tie.Need-same-length-4
-same-length-4 c = search needs
+refuse-requires c κs = tt
 
 marks-of-requires : tie.Need-marks-of-requires
-marks-of-requires c κs = search needs
+marks-of-requires c κs = tt
 
 is-ready-requires : tie.Need-is-ready-requires
-is-ready-requires c κs = search needs
-
-same-length-5 : tie.Need-same-length-5
-same-length-5 c = search needs
-
-same-length-6 : tie.Need-same-length-6
-same-length-6 c = search needs
-
-same-length-7 : tie.Need-same-length-7
-same-length-7 c = search needs
-
-same-length-8 : tie.Need-same-length-8
-same-length-8 c = search needs
+is-ready-requires c κs = tt
 
 rebuild-requires : tie.Need-rebuild-requires
-rebuild-requires c κs = search needs
-
-same-length-9 : tie.Need-same-length-9
-same-length-9 c = search needs
-
-same-length-10 : tie.Need-same-length-10
-same-length-10 c = search needs
-
-same-length-11 : tie.Need-same-length-11
-same-length-11 c = search needs
-
-same-length-12 : tie.Need-same-length-12
-same-length-12 c = search needs
+rebuild-requires c κs = tt
 
 accepted-requires : tie.Need-accepted-requires
-accepted-requires c κs = search needs
+accepted-requires c κs = tt
+
+-- every list is as long as it came: it is as it came, or the macroblock call keeps its length, or one byte of the map is set
+same-length : tie.Need-same-length
+same-length c = refl
+
+same-length-2 : tie.Need-same-length-2
+same-length-2 c = refl
+
+same-length-3 : tie.Need-same-length-3
+same-length-3 c = refl
+
+same-length-4 : tie.Need-same-length-4
+same-length-4 c = refl
+
+same-length-5 : tie.Need-same-length-5
+same-length-5 c = declined c .rebuild .kept .1 .1 .0
+
+same-length-6 : tie.Need-same-length-6
+same-length-6 c = declined c .rebuild .kept .1 .1 .1 .0
+
+same-length-7 : tie.Need-same-length-7
+same-length-7 c = declined c .rebuild .kept .1 .1 .1 .1 .0
+
+same-length-8 : tie.Need-same-length-8
+same-length-8 c = refl
+
+same-length-9 : tie.Need-same-length-9
+same-length-9 c = called (agreed c) .rebuild .kept .1 .1 .0
+
+same-length-10 : tie.Need-same-length-10
+same-length-10 c = called (agreed c) .rebuild .kept .1 .1 .1 .0
+
+same-length-11 : tie.Need-same-length-11
+same-length-11 c = called (agreed c) .rebuild .kept .1 .1 .1 .1 .0
+
+same-length-12 : tie.Need-same-length-12
+same-length-12 c = let s = start (asked (called (agreed c))) in length-set (s .args .done .now) (here (given s)) 1
 
 pub rebuild-spec : {M : Type 1} → statement M
 rebuild-spec =
