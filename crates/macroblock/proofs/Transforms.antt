@@ -18,8 +18,8 @@ use Rattle.laws.proofs.Blockwise.{blockwise-at}
 use Rattle.laws.proofs.Stretches.{part-at}
 use Rattle.laws.proofs.Tables.{length-table, getD-table, table-same}
 use Rattle.laws.proofs.Tests.{all-same, all-split}
+use Rattle.numbers.specs.Numbers.{allInRange}
 use Rattle.residual.specs.Inverse.{inverse4x4, inRange4x4}
-use Rattle.residual.specs.Numbers.{allInRange}
 use Rattle.residual.specs.Quads.{codedQuad, codedQuads}
 use Rattle.residual.proofs.Quads.{blank-quad}
 use Rattle.residual.proofs.Rooms.{blocks-numbers}

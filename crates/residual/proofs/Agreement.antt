@@ -14,11 +14,11 @@ use Rattle.laws.proofs.Ints.{within-more}
 use Rattle.laws.proofs.Tables.{getD-table, length-table, table-same, table-const}
 use Rattle.laws.proofs.Tests.{true-T, T-true, same-test, and-of}
 use Rattle.basics.specs.Clip.{Clip1}
+use Rattle.numbers.specs.Numbers.{inRange, allInRange, lastInRange}
+use Rattle.numbers.proofs.InRange.{in-range-within, within-in-range, last-in-range, all-true}
 use Rattle.residual.specs.Agreement.{Agreement, lone, into, square}
 use Rattle.residual.specs.Inverse.{firstStep, secondStep, rounded, eRow, fRow, gColumn, hColumn, inverse4x4, inRange4x4}
-use Rattle.residual.specs.Numbers.{inRange, allInRange, lastInRange}
 use Rattle.residual.specs.Reconstruct.{sums, putSquare, sumIn, intoRoom}
-use Rattle.residual.proofs.InRange.{in-range-within, within-in-range, last-in-range, all-true}
 use Rattle.residual.proofs.Halfway.{says, told}
 use Rattle.residual.proofs.Transform.{rounded-small}
 use Rattle.residual.proofs.Rooms.{room}

@@ -12,11 +12,11 @@ use Rattle.laws.specs.Table.{allBelow}
 use Rattle.laws.proofs.Blockwise.{TestOfBlock}
 use Rattle.laws.proofs.Ints.{within-table}
 use Rattle.laws.proofs.Tests.{and-left, and-right, and-both, and-of, all-at, all-of, all-same}
+use Rattle.numbers.specs.Numbers.{inRange, allInRange, lastInRange}
+use Rattle.numbers.proofs.InRange.{in-range-within, in-range-short, halves, last-in-range, last-rounds}
+use Rattle.numbers.proofs.InRange as numbers
 use Rattle.residual.specs.Fits4x4.{Fits4x4}
 use Rattle.residual.specs.Inverse.{secondStep, eRow, fRow, gColumn, hColumn, inverse4x4, inRange4x4}
-use Rattle.residual.specs.Numbers.{inRange, allInRange, lastInRange}
-use Rattle.residual.proofs.InRange.{in-range-within, in-range-short, halves, last-in-range, last-rounds}
-use Rattle.residual.proofs.InRange as numbers
 use Rattle.residual.proofs.Transform.{rounded-small, e-same, f-same, g-same, h-same}
 
 -- ---- the values of the second step tell of those of the first

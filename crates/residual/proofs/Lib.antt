@@ -1,8 +1,6 @@
 -- The laws about this crate's definitions.
 pub mod Agreement
-pub mod Far
 pub mod Halfway
-pub mod InRange
 pub mod Quads
 pub mod Rooms
 pub mod Squares

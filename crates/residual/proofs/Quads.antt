@@ -17,13 +17,13 @@ use Rattle.laws.proofs.Blockwise.{OfBlock, TestOfBlock, blockAt, testAt}
 use Rattle.laws.proofs.Stretches.{part-at}
 use Rattle.laws.proofs.Tables.{length-table, getD-table, table-same, table-const}
 use Rattle.laws.proofs.Tests.{not-both, and-left, and-right, and-both, all-at, all-of, all-same, all-groups}
+use Rattle.numbers.specs.Numbers.{inRange, allInRange, allOf, isZero, isSmall, lastInRange}
+use Rattle.numbers.proofs.InRange as in-range
 use Rattle.residual.specs.Agreement.{lone}
 use Rattle.residual.specs.Inverse.{rounded, inverse4x4, inRange4x4}
-use Rattle.residual.specs.Numbers.{inRange, allInRange, allOf, isZero, isSmall, lastInRange}
 use Rattle.residual.specs.Quads.{codedQuad}
 use Rattle.residual.specs.inner.Quads.{quadInverse, quadInRange, OnlyFirsts}
 use Rattle.residual.proofs.Agreement.{agreement}
-use Rattle.residual.proofs.InRange as in-range
 
 -- ---- what is made of a quad is made of its 64 numbers
 quad-same : (d d′ : List ℤ) → ((k : ℕ) → k < 64 → at d k ≡ at d′ k) → table 64 (at d) ≡ table 64 (at d′)

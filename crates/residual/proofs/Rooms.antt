@@ -17,12 +17,12 @@ use Rattle.laws.proofs.Answers.{holds, passes, refused, put}
 use Rattle.laws.proofs.Blockwise.{number-in}
 use Rattle.laws.proofs.Tables.{length-table}
 use Rattle.laws.proofs.Tests.{not-both, no-from, and-left, and-right, and-both, all-at}
+use Rattle.numbers.specs.Numbers.{inRange, allInRange}
+use Rattle.numbers.proofs.InRange.{all-true}
+use Rattle.numbers.proofs.InRange as in-range
 use Rattle.residual.specs.Inverse.{inverseAnswer}
-use Rattle.residual.specs.Numbers.{inRange, allInRange}
 use Rattle.residual.specs.Quads.{markAnswer, blocksAnswer}
 use Rattle.residual.specs.Reconstruct.{rowsIn, intoRoom, sumsRoom, sumsAnswer}
-use Rattle.residual.proofs.InRange.{all-true}
-use Rattle.residual.proofs.InRange as in-range
 
 -- row y of the prediction and of the written block of side n lie in their buffers
 pub record Room (n predLen predOff predStride recLen recOff recStride y : ℕ) : Type 0 where

@@ -14,9 +14,9 @@ use Rattle.laws.specs.Range.{Within, AllWithin, at}
 use Rattle.laws.proofs.Ints.{ints, within-back, within-more, within-neg, within-shr, within-short, within-table, abs-add, parts-add, parts-pos, parts-abs, parts-shr, back}
 use Rattle.laws.proofs.Blockwise.{OfBlock}
 use Rattle.laws.proofs.Tables.{length-table, table-same}
+use Rattle.numbers.specs.Numbers.{allInRange}
+use Rattle.numbers.proofs.InRange.{all-within}
 use Rattle.residual.specs.Inverse.{firstStep, secondStep, oneDimensional, rounded, eRow, fRow, gColumn, hColumn, inverse4x4}
-use Rattle.residual.specs.Numbers.{allInRange}
-use Rattle.residual.proofs.InRange.{all-within}
 
 -- a list that is a bounded one, and is bounded
 pub bounded : {k : ℕ} {l m : List ℤ} → l ≡ m → AllWithin k m → (l ≡ m) × AllWithin k l

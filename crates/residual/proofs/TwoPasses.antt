@@ -13,14 +13,14 @@ use Rattle.laws.proofs.Ints.{within-more, within-table}
 use Rattle.laws.proofs.Ontos.{onto-all}
 use Rattle.laws.proofs.Tables.{length-table, getD-table, table-same}
 use Rattle.laws.proofs.Tests.{true-T, T-true, same-test, and-left, and-right, and-of, all-at, all-of, all-same, all-both, all-groups}
+use Rattle.numbers.specs.Numbers.{inRange, allInRange, allOf, isSmall, lastInRange}
+use Rattle.numbers.proofs.InRange.{within-in-range, within-last, in-range-all, all-true}
+use Rattle.numbers.proofs.InRange as numbers
+use Rattle.numbers.proofs.Far.{near-within}
 use Rattle.residual.specs.Inverse.{secondStep, oneDimensional, rounded, eRow, fRow, gColumn, hColumn, inverse4x4, inRange4x4}
-use Rattle.residual.specs.Numbers.{inRange, allInRange, allOf, isSmall, lastInRange}
 use Rattle.residual.specs.inner.Passes.{rowAt, columnsOf}
 use Rattle.residual.specs.inner.Quads.{quadInverse, quadInRange}
 use Rattle.residual.proofs.Halfway.{says, told, range-of-block}
-use Rattle.residual.proofs.InRange.{within-in-range, within-last, in-range-all, all-true}
-use Rattle.residual.proofs.InRange as numbers
-use Rattle.residual.proofs.Far.{near-within}
 use Rattle.residual.proofs.Quads.{quad-block, inverse-at, range-is}
 use Rattle.residual.proofs.Transform.{seven-within, one-within, row-within, four-same, of-block}
 

@@ -7,8 +7,8 @@ use lib.IntN.{ℤ, pos}
 use lib.ListN.{length, getD, replicate}
 use Rattle.laws.specs.Answer.{written}
 use Rattle.laws.specs.Table.{blockOf}
+use Rattle.numbers.specs.Numbers.{inRange, allInRange, lastInRange}
 use Rattle.residual.specs.Inverse.{rounded, inverse4x4, inRange4x4}
-use Rattle.residual.specs.Numbers.{inRange, allInRange, lastInRange}
 use Rattle.residual.specs.Reconstruct.{sums, putSquare, sumIn, intoRoom, intoAnswer}
 
 -- a coefficient at place 0, and 0 elsewhere

@@ -9,7 +9,7 @@ use lib.Signed.{shrZ}
 use Rattle.laws.specs.Answer.{_unless_, answer}
 use Rattle.laws.specs.Range.{at}
 use Rattle.laws.specs.Table.{allBelow, blockOf}
-use Rattle.residual.specs.Numbers.{inRange, lastInRange}
+use Rattle.numbers.specs.Numbers.{inRange, lastInRange}
 
 -- ---- the one-dimensional transformation of four numbers, of a row and of a column
 -- e from d in a row, g from f in a column

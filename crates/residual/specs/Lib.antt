@@ -2,7 +2,6 @@
 pub mod Agreement
 pub mod Fits4x4
 pub mod Inverse
-pub mod Numbers
 pub mod Quads
 pub mod Reconstruct
 pub mod inner

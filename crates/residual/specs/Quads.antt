@@ -8,7 +8,7 @@ use lib.ListN.{length}
 use Rattle.laws.specs.Answer.{_unless_, answer}
 use Rattle.laws.specs.Range.{at}
 use Rattle.laws.specs.Table.{table, allBelow}
-use Rattle.residual.specs.Numbers.{isZero, isSmall}
+use Rattle.numbers.specs.Numbers.{isZero, isSmall}
 
 -- the mark of quad q: 0 where all its numbers are 0, 1 where all are small, else 2
 unfoldable pub codedQuad : List ℤ → ℕ → ℕ

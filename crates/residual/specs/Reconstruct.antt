@@ -10,7 +10,7 @@ use Rattle.laws.specs.Patch.{patch}
 use Rattle.laws.specs.Range.{at}
 use Rattle.laws.specs.Table.{table}
 use Rattle.basics.specs.Clip.{Clip1}
-use Rattle.residual.specs.Numbers.{allInRange}
+use Rattle.numbers.specs.Numbers.{allInRange}
 
 -- the first n samples of a block, from its prediction and its residual in raster order
 unfoldable pub sums : ℕ → List ℤ → List ℤ → List ℕ

@@ -10,21 +10,21 @@ ghost use lib.Signed.{leZ};
 ghost use Rattle.laws.specs.Answer.{_unless_, answer, written};
 ghost use Rattle.laws.specs.Range.{Within, at};
 ghost use Rattle.laws.specs.Table.{blockwise, allBelow, allBlocks};
+ghost use Rattle.numbers.specs.Numbers.{allInRange, isZero, isSmall};
 ghost use Rattle.residual.specs.Fits4x4.{Fits4x4};
 ghost use Rattle.residual.specs.Inverse.{rounded, inverse4x4, inRange4x4, inverseAnswer};
-ghost use Rattle.residual.specs.Numbers.{allInRange, isZero, isSmall};
 ghost use Rattle.residual.specs.Quads.{codedQuad, codedQuads, markAnswer, blocksAnswer};
 ghost use Rattle.residual.specs.inner.Quads.{quadInverse, quadInRange, OnlyFirsts};
-use super::numbers::fill_all;
-use super::numbers::widen_all;
 use super::passes::columns;
 use super::passes::round;
 use super::passes::round_all;
 use super::passes::rows;
 use super::passes::values_in_range;
-use super::reach::any_of;
-use super::reach::with_list;
 use basics::tests::both;
+use numbers::range::fill_all;
+use numbers::range::widen_all;
+use numbers::reach::any_of;
+use numbers::reach::with_list;
 
 pub struct Residual4x4 {
     pub answer: u32,

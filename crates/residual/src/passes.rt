@@ -8,11 +8,11 @@ ghost use lib.IntN.{ℤ};
 ghost use lib.ListN.{length, drop};
 ghost use Rattle.laws.specs.Range.{Within, AllWithin, at};
 ghost use Rattle.laws.specs.Table.{table, onto};
+ghost use Rattle.numbers.specs.Numbers.{allInRange, allOf, lastInRange};
 ghost use Rattle.residual.specs.Inverse.{oneDimensional, rounded, fRow};
-ghost use Rattle.residual.specs.Numbers.{allInRange, allOf, lastInRange};
 ghost use Rattle.residual.specs.inner.Passes.{rowAt, columnsOf};
-use super::reach::with_last_list;
-use super::reach::with_list;
+use numbers::reach::with_last_list;
+use numbers::reach::with_list;
 
 // The rows of a list, transformed, as many as `f` takes.
 pub(crate) fn rows(d: &[i32], f: &mut [i32])

@@ -9,16 +9,16 @@ ghost use lib.ListN.{length, getD, replicate};
 ghost use Rattle.laws.specs.Answer.{_unless_, answer, written};
 ghost use Rattle.laws.specs.Range.{AllWithin, at};
 ghost use Rattle.basics.specs.Clip.{Clip1};
+ghost use Rattle.numbers.specs.Numbers.{inRange, allInRange};
 ghost use Rattle.residual.specs.Inverse.{inverse4x4, inRange4x4};
-ghost use Rattle.residual.specs.Numbers.{inRange, allInRange};
 ghost use Rattle.residual.specs.Reconstruct.{sums, putSquare, sumIn, rowsIn, intoRoom, intoAnswer, sumsRoom, sumsAnswer};
 ghost use Rattle.residual.specs.inner.Sums.{summed};
 use super::inverse::invert_one;
-use super::numbers::all_in_range;
-use super::numbers::narrow;
-use super::numbers::narrow_all;
-use super::numbers::widen_all;
 use basics::clip::clip_u8;
+use numbers::range::all_in_range;
+use numbers::range::narrow;
+use numbers::range::narrow_all;
+use numbers::range::widen_all;
 
 pub struct Block4x4 {
     pub answer: u32,

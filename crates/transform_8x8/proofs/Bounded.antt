@@ -10,8 +10,8 @@ use lib.IntN.{ℤ, pos, negsuc, negℤ, _+ℤ_, _-ℤ_}
 use lib.Signed.{shrZ}
 use Rattle.laws.specs.Range.{Within, AllWithin, at}
 use Rattle.laws.proofs.Ints.{up, dn, parts-add, parts-neg, abs-add, within-neg, within-table, parts-abs, parts-shr}
-use Rattle.residual.specs.Numbers.{allInRange}
-use Rattle.residual.proofs.InRange.{all-within}
+use Rattle.numbers.specs.Numbers.{allInRange}
+use Rattle.numbers.proofs.InRange.{all-within}
 use Rattle.residual.proofs.Transform.{rounded-small}
 use Rattle.transform_8x8.specs.Bounds.{Bounds}
 use Rattle.transform_8x8.specs.Inverse8x8.{firstStep, secondStep, thirdStep, eRow, fRow, gRow, hColumn, kColumn, mColumn, inverse8x8}

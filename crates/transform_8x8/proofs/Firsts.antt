@@ -14,9 +14,9 @@ use Rattle.laws.proofs.Blockwise.{blockwise-at}
 use Rattle.laws.proofs.Stretches.{part-at}
 use Rattle.laws.proofs.Tables.{getD-table}
 use Rattle.laws.proofs.Tests.{and-left, all-at, all-same}
+use Rattle.numbers.specs.Numbers.{inRange, allInRange, allOf, isZero, lastInRange}
+use Rattle.numbers.proofs.InRange as in-range
 use Rattle.residual.specs.Inverse.{rounded}
-use Rattle.residual.specs.Numbers.{inRange, allInRange, allOf, isZero, lastInRange}
-use Rattle.residual.proofs.InRange as in-range
 use Rattle.residual.specs.Quads.{codedQuad}
 use Rattle.residual.proofs.Quads.{zero-is, uncoded}
 use Rattle.transform_8x8.specs.Flat.{lone}

@@ -11,9 +11,9 @@ use Rattle.laws.specs.Range.{at}
 use Rattle.laws.specs.Table.{allBelow}
 use Rattle.laws.proofs.Tables.{table-same, table-const}
 use Rattle.laws.proofs.Tests.{true-T, T-true, same-test, and-of, all-of}
+use Rattle.numbers.specs.Numbers.{inRange, allInRange, allOf, lastInRange}
+use Rattle.numbers.proofs.InRange.{last-in-range}
 use Rattle.residual.specs.Inverse.{rounded}
-use Rattle.residual.specs.Numbers.{inRange, allInRange, allOf, lastInRange}
-use Rattle.residual.proofs.InRange.{last-in-range}
 use Rattle.transform_8x8.specs.Flat.{Flat, lone}
 use Rattle.transform_8x8.specs.Inverse8x8.{firstStep, secondStep, thirdStep, oneDimensional, eRow, fRow, gRow, hColumn, kColumn, mColumn, inverse8x8, inRange8x8}
 use Rattle.transform_8x8.specs.inner.Told.{oddOf, rowTold}

@@ -12,9 +12,9 @@ use Rattle.laws.specs.Table.{table, allBelow}
 use Rattle.laws.proofs.Blockwise.{TestOfBlock}
 use Rattle.laws.proofs.Ints.{within-table}
 use Rattle.laws.proofs.Tests.{true-T, T-true, same-test, and-left, and-right, and-of, all-at, all-of, all-same}
-use Rattle.residual.specs.Numbers.{inRange, allInRange, allOf, lastInRange}
-use Rattle.residual.proofs.InRange.{in-range-within, in-range-short, halves, last-in-range, last-rounds}
-use Rattle.residual.proofs.InRange as numbers
+use Rattle.numbers.specs.Numbers.{inRange, allInRange, allOf, lastInRange}
+use Rattle.numbers.proofs.InRange.{in-range-within, in-range-short, halves, last-in-range, last-rounds}
+use Rattle.numbers.proofs.InRange as numbers
 use Rattle.residual.proofs.Transform.{rounded-small}
 use Rattle.transform_8x8.specs.Fits8x8.{Fits8x8}
 use Rattle.transform_8x8.specs.Inverse8x8.{secondStep, thirdStep, eRow, fRow, gRow, hColumn, kColumn, mColumn, inverse8x8, inRange8x8}

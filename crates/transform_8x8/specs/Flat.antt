@@ -3,8 +3,8 @@ use mathlib.Core.Path.{_≡_}
 use mathlib.Core.List.{List, _∷_}
 use lib.IntN.{ℤ, pos}
 use lib.ListN.{replicate}
+use Rattle.numbers.specs.Numbers.{lastInRange}
 use Rattle.residual.specs.Inverse.{rounded}
-use Rattle.residual.specs.Numbers.{lastInRange}
 use Rattle.transform_8x8.specs.Inverse8x8.{inverse8x8, inRange8x8}
 
 abbrev pub lone : ℤ → List ℤ

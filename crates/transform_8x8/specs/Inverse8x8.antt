@@ -6,8 +6,8 @@ use lib.IntN.{ℤ, negℤ, _+ℤ_, _-ℤ_}
 use lib.Signed.{shrZ}
 use Rattle.laws.specs.Range.{at}
 use Rattle.laws.specs.Table.{allBelow, blockOf}
+use Rattle.numbers.specs.Numbers.{inRange, lastInRange}
 use Rattle.residual.specs.Inverse.{rounded}
-use Rattle.residual.specs.Numbers.{inRange, lastInRange}
 
 -- ---- the one-dimensional transformation of eight numbers, of a row and of a column
 -- e from d in a row, h from g in a column

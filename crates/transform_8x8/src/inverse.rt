@@ -8,8 +8,8 @@ ghost use lib.ListN.{length, drop, replicate};
 ghost use Rattle.laws.specs.Answer.{_unless_, answer, written};
 ghost use Rattle.laws.specs.Range.{at};
 ghost use Rattle.laws.specs.Table.{blockwise, allBelow, allBlocks};
+ghost use Rattle.numbers.specs.Numbers.{allInRange, isZero};
 ghost use Rattle.residual.specs.Inverse.{inverseAnswer};
-ghost use Rattle.residual.specs.Numbers.{allInRange, isZero};
 ghost use Rattle.residual.specs.Quads.{codedQuads, blocksAnswer};
 ghost use Rattle.transform_8x8.specs.Fits8x8.{Fits8x8};
 ghost use Rattle.transform_8x8.specs.Inverse8x8.{inverse8x8, inRange8x8};
@@ -17,12 +17,12 @@ ghost use Rattle.transform_8x8.specs.inner.Firsts.{OnlyFirst};
 use super::passes::invert;
 use super::passes::round;
 use basics::tests::both;
+use numbers::range::fill_all;
+use numbers::range::widen_all;
+use numbers::reach::any_of;
 use residual::inverse::Blocks;
 use residual::inverse::mark_coded;
 use residual::inverse::refused;
-use residual::numbers::fill_all;
-use residual::numbers::widen_all;
-use residual::reach::any_of;
 
 pub struct Residual8x8 {
     pub answer: u32,

@@ -7,15 +7,15 @@ ghost use lib.IntN.{ℤ};
 ghost use lib.ListN.{length, drop};
 ghost use Rattle.laws.specs.Range.{Within, AllWithin, at};
 ghost use Rattle.laws.specs.Table.{table, onto, allBelow};
+ghost use Rattle.numbers.specs.Numbers.{inRange, allInRange, allOf, held};
 ghost use Rattle.residual.specs.Inverse.{rounded};
-ghost use Rattle.residual.specs.Numbers.{inRange, allInRange, allOf, held};
 ghost use Rattle.transform_8x8.specs.Inverse8x8.{firstStep, oneDimensional, eRow, gRow, inverse8x8, inRange8x8};
 ghost use Rattle.transform_8x8.specs.inner.ByColumn.{ByColumn, rowAt, columnAt};
 ghost use Rattle.transform_8x8.specs.inner.Told.{oddOf, columnIn, rowTold, columnTold};
 use super::steps::Steps;
 use super::steps::one_dimensional;
-use residual::reach::with_last_list;
-use residual::reach::with_list;
+use numbers::reach::with_last_list;
+use numbers::reach::with_list;
 
 // The residuals of the first 64 numbers of a list over the first 64 places of `out`, and whether every value on the way is in range.
 pub(crate) fn invert(d: &[i32], out: &mut [i16]) -> bool

@@ -5,7 +5,7 @@ use Prim.Native.Nat.{ℕ, _+_, _*_}
 use lib.IntN.{ℤ}
 use Rattle.laws.specs.Range.{at}
 use Rattle.laws.specs.Table.{allBelow}
-use Rattle.residual.specs.Numbers.{inRange, allOf, lastInRange}
+use Rattle.numbers.specs.Numbers.{inRange, allOf, lastInRange}
 use Rattle.transform_8x8.specs.Inverse8x8.{firstStep, oneDimensional, eRow}
 
 -- the odd places of eight numbers

@@ -16,8 +16,8 @@ use Rattle.laws.proofs.Ints.{within-back, back}
 use Rattle.laws.proofs.Ontos.{onto-none, onto-long, onto-row}
 use Rattle.laws.proofs.Tables.{table-const}
 use Rattle.laws.proofs.Tests.{all-none, all-next}
+use Rattle.numbers.proofs.InRange.{in-range-within, all-at}
 use Rattle.residual.specs.Inverse.{rounded}
-use Rattle.residual.proofs.InRange.{in-range-within, all-at}
 use Rattle.residual.proofs.Quads.{flat-inverse, flat-range}
 use borrow.Author.Needs.{needs}
 use Rattle.residual.proofs.inverse.flatten.Statement.{statement}

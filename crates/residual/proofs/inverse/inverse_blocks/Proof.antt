@@ -9,8 +9,8 @@ use lib.ListN.{length}
 use Rattle.laws.specs.Table.{blockwise}
 use Rattle.laws.proofs.Answers.{put}
 use Rattle.laws.proofs.Tables.{length-table}
+use Rattle.numbers.specs.Numbers.{allInRange}
 use Rattle.residual.specs.Inverse.{inverse4x4, inRange4x4}
-use Rattle.residual.specs.Numbers.{allInRange}
 use Rattle.residual.specs.Quads.{codedQuad}
 use Rattle.residual.proofs.Halfway.{in-numbers}
 use Rattle.residual.proofs.Rooms.{answered, marked, whole, unmarked}

@@ -13,8 +13,8 @@ use Rattle.laws.proofs.Blockwise.{blockAt, block-more}
 use Rattle.laws.proofs.Ints.{within-part}
 use Rattle.laws.proofs.Ontos.{onto-none, onto-all, onto-long}
 use Rattle.laws.proofs.Tables.{length-table}
+use Rattle.numbers.specs.Numbers.{allInRange, allOf, lastInRange}
 use Rattle.residual.specs.Inverse.{rounded}
-use Rattle.residual.specs.Numbers.{allInRange, allOf, lastInRange}
 use Rattle.residual.specs.inner.Passes.{rowAt, columnsOf}
 use Rattle.residual.specs.inner.Quads.{quadInverse}
 use Rattle.residual.proofs.TwoPasses.{of-columns, rows-within, quad-within, quad-is, quad-told, quad-small}

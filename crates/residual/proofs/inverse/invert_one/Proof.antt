@@ -11,10 +11,10 @@ use Rattle.laws.specs.Range.{AllWithin, at}
 use Rattle.laws.specs.Table.{table}
 use Rattle.laws.proofs.Tables.{length-table}
 use Rattle.laws.proofs.Tests.{not-both, no-from}
+use Rattle.numbers.specs.Numbers.{allInRange, allOf, held, lastInRange}
+use Rattle.numbers.proofs.Far.{near-all}
 use Rattle.residual.specs.Inverse.{rounded, inverse4x4, inRange4x4}
-use Rattle.residual.specs.Numbers.{allInRange, allOf, held, lastInRange}
 use Rattle.residual.specs.inner.Passes.{rowAt, columnsOf}
-use Rattle.residual.proofs.Far.{near-all}
 use Rattle.residual.proofs.Halfway.{in-numbers}
 use Rattle.residual.proofs.TwoPasses.{of-columns, columns-alone, columns-within, rows-within, one-is, one-told, one-small}
 use borrow.Author.Needs.{needs}

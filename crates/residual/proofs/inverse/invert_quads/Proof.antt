@@ -10,9 +10,9 @@ use Rattle.laws.proofs.Blockwise.{blockAt, kept, block-more, testAt, test-next}
 use Rattle.laws.proofs.Ontos.{onto-none, onto-all, onto-long}
 use Rattle.laws.proofs.Tables.{getD-table, table-same}
 use Rattle.laws.proofs.Tests.{all-none}
+use Rattle.numbers.proofs.InRange.{part-in-range}
 use Rattle.residual.specs.Quads.{codedQuad}
 use Rattle.residual.specs.inner.Quads.{quadInverse, quadInRange}
-use Rattle.residual.proofs.InRange.{part-in-range}
 use Rattle.residual.proofs.Quads.{quad-block, quad-range, quads-inverse, quads-range, coded-part}
 use borrow.Author.Needs.{needs}
 use Rattle.residual.proofs.inverse.invert_quads.Statement.{statement}

@@ -3,9 +3,9 @@ use mathlib.Core.Path.{_≡_, sym, ap, ap₂, _∙_}
 use mathlib.Core.Bool.{Bool, false, cond}
 use lib.Dec.{ltb}
 use borrow.Author.Tests.{lt-ltb, le-ltb}
-use Rattle.residual.specs.Numbers.{isZero}
-use Rattle.residual.proofs.Far.{zero-bits, some-bits}
 use borrow.Author.Needs.{needs}
+use Rattle.numbers.specs.Numbers.{isZero}
+use Rattle.numbers.proofs.Far.{zero-bits, some-bits}
 use Rattle.residual.proofs.inverse.mark_of.Statement.{statement}
 use Rattle.residual.proofs.inverse.mark_of.Tie as tie
 

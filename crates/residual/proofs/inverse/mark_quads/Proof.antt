@@ -12,9 +12,9 @@ use Rattle.laws.specs.Range.{at}
 use Rattle.laws.specs.Table.{table, allBelow}
 use Rattle.laws.proofs.Tables.{Filled, filled-none, filled-more, filled-all}
 use Rattle.laws.proofs.Tests.{all-none, all-next, all-same}
-use Rattle.residual.specs.Numbers.{inRange, isZero, near}
+use Rattle.numbers.specs.Numbers.{inRange, isZero, near}
+use Rattle.numbers.proofs.Far.{near-range}
 use Rattle.residual.specs.Quads.{codedQuad}
-use Rattle.residual.proofs.Far.{near-range}
 use Rattle.residual.proofs.Quads.{quad-all, quads-numbers}
 use borrow.Author.Needs.{needs}
 use Rattle.residual.proofs.inverse.mark_quads.Statement.{statement}

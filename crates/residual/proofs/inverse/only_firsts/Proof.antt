@@ -11,7 +11,7 @@ use borrow.Author.Tests.{eqb-true}
 use mir.Val.{toZ, ofZ}
 use Rattle.laws.specs.Range.{at}
 use Rattle.laws.proofs.Tests.{not-both}
-use Rattle.residual.specs.Numbers.{isZero}
+use Rattle.numbers.specs.Numbers.{isZero}
 use Rattle.residual.proofs.Quads.{rest-next}
 use borrow.Author.Needs.{needs}
 use Rattle.residual.proofs.inverse.only_firsts.Statement.{statement}

@@ -6,8 +6,8 @@ use mir.Facts.{toZ-ofZ}
 use Prim.Native.Nat.{_+_, _*_}
 use borrow.Author.Needs.{needs, sfits-of}
 use Rattle.laws.specs.Range.{at}
+use Rattle.numbers.proofs.InRange.{all-within}
 use Rattle.residual.specs.Inverse.{firstStep, oneDimensional, eRow, fRow}
-use Rattle.residual.proofs.InRange.{all-within}
 use Rattle.residual.proofs.Transform.{read-within}
 use Rattle.residual.proofs.passes.row.Statement.{statement}
 use Rattle.residual.proofs.passes.row.Tie as tie

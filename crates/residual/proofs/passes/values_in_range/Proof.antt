@@ -1,9 +1,9 @@
 -- `residual::passes::values_in_range` meets its contract: the reach tells of both lists. Assumes nothing.
 use mathlib.Core.Path.{ap, _∙_}
 use mathlib.Core.Bool.{_&&_}
-use Rattle.residual.specs.Numbers.{allOf, lastInRange}
-use Rattle.residual.proofs.Far.{near-all}
 use borrow.Author.Needs.{needs}
+use Rattle.numbers.specs.Numbers.{allOf, lastInRange}
+use Rattle.numbers.proofs.Far.{near-all}
 use Rattle.residual.proofs.passes.values_in_range.Statement.{statement}
 use Rattle.residual.proofs.passes.values_in_range.Tie as tie
 

@@ -1,7 +1,7 @@
 -- `residual::reconstruct::add_residual_4x4` meets its contract: it is the form over lists, of arrays and a block of zeros. Assumes nothing.
 use mathlib.Core.Path.{_∙_}
 use lib.Dec.{lit≤}
-use Rattle.residual.specs.Numbers.{allInRange}
+use Rattle.numbers.specs.Numbers.{allInRange}
 use Rattle.residual.proofs.Rooms.{sums-array}
 use borrow.Author.Needs.{needs}
 use Rattle.residual.proofs.reconstruct.add_residual_4x4.Statement.{statement}

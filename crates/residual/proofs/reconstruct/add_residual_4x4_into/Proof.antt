@@ -3,8 +3,8 @@ use mathlib.Core.Path.{_∙_}
 use lib.Dec.{eqb}
 use lib.ListN.{length}
 use Rattle.laws.proofs.Answers.{put}
-use Rattle.residual.specs.Numbers.{allInRange}
 use borrow.Author.Needs.{needs}
+use Rattle.numbers.specs.Numbers.{allInRange}
 use Rattle.residual.proofs.reconstruct.add_residual_4x4_into.Statement.{statement}
 use Rattle.residual.proofs.reconstruct.add_residual_4x4_into.Tie as tie
 

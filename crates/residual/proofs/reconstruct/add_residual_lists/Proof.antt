@@ -3,9 +3,9 @@ use mathlib.Core.Path.{_≡_, refl, sym, _∙_}
 use mathlib.Core.Bool.{true, _&&_}
 use borrow.Author.Tests.{not-true, not-false}
 use lib.ListN.{length}
-use Rattle.residual.specs.Numbers.{allInRange}
+use Rattle.numbers.specs.Numbers.{allInRange}
+use Rattle.numbers.proofs.InRange.{both-within}
 use Rattle.residual.specs.Reconstruct.{sumsRoom}
-use Rattle.residual.proofs.InRange.{both-within}
 use Rattle.residual.proofs.Rooms.{summable}
 use borrow.Author.Needs.{needs}
 use Rattle.residual.proofs.reconstruct.add_residual_lists.Statement.{statement}

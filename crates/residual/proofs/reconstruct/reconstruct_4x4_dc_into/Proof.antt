@@ -7,9 +7,9 @@ use mir.Facts.{toZ-ofZ}
 use mir.Syntax.{w16}
 use mir.Val.{toZ, ofZ}
 use Rattle.laws.proofs.Answers.{passes}
-use Rattle.residual.specs.Numbers.{inRange}
-use Rattle.residual.proofs.InRange.{in-range-short}
 use borrow.Author.Needs.{needs}
+use Rattle.numbers.specs.Numbers.{inRange}
+use Rattle.numbers.proofs.InRange.{in-range-short}
 use Rattle.residual.proofs.reconstruct.reconstruct_4x4_dc_into.Statement.{statement}
 use Rattle.residual.proofs.reconstruct.reconstruct_4x4_dc_into.Tie as tie
 

@@ -5,11 +5,11 @@ use borrow.Author.Tests.{not-true, not-false}
 use lib.ListN.{length}
 use Rattle.laws.specs.Range.{AllWithin}
 use Rattle.laws.proofs.Tests.{and-no, and-of}
+use Rattle.numbers.specs.Numbers.{allInRange}
+use Rattle.numbers.proofs.InRange.{all-within}
 use Rattle.residual.specs.Inverse.{inverse4x4, inRange4x4}
-use Rattle.residual.specs.Numbers.{allInRange}
 use Rattle.residual.specs.Reconstruct.{sums, sumsRoom}
 use Rattle.residual.proofs.Halfway.{in-numbers}
-use Rattle.residual.proofs.InRange.{all-within}
 use Rattle.residual.proofs.Rooms.{Summable, summable, copied}
 use Rattle.residual.proofs.Transform.{of-block, inverse-within}
 use borrow.Author.Needs.{needs}

@@ -10,8 +10,8 @@ use mir.Facts.{toZ-ofZ}
 use mir.Syntax.{w16}
 use Rattle.laws.specs.Range.{Within, at}
 use Rattle.laws.proofs.Ints.{within-back, within-more, back}
+use Rattle.numbers.proofs.InRange.{in-range-within, all-at}
 use Rattle.residual.specs.Inverse.{rounded}
-use Rattle.residual.proofs.InRange.{in-range-within, all-at}
 use Rattle.transform_8x8.proofs.Firsts.{first-inverse, first-range}
 use borrow.Author.Needs.{needs}
 use Rattle.transform_8x8.proofs.inverse.flat.Statement.{statement}

@@ -9,8 +9,8 @@ use lib.ListN.{length}
 use Rattle.laws.specs.Table.{blockwise}
 use Rattle.laws.proofs.Answers.{put}
 use Rattle.laws.proofs.Tables.{length-table}
+use Rattle.numbers.specs.Numbers.{allInRange}
 use Rattle.transform_8x8.specs.Inverse8x8.{inverse8x8, inRange8x8}
-use Rattle.residual.specs.Numbers.{allInRange}
 use Rattle.residual.specs.Quads.{codedQuad}
 use Rattle.transform_8x8.proofs.Halfway.{in-numbers}
 use Rattle.residual.proofs.Rooms.{answered, marked, whole, unmarked}

@@ -13,9 +13,9 @@ use Rattle.laws.proofs.Ontos.{onto-none, onto-all, onto-long}
 use Rattle.laws.proofs.Stretches.{part-at}
 use Rattle.laws.proofs.Tables.{getD-table}
 use Rattle.laws.proofs.Tests.{all-none, all-same}
-use Rattle.residual.specs.Numbers.{isZero}
+use Rattle.numbers.specs.Numbers.{isZero}
+use Rattle.numbers.proofs.InRange.{part-in-range}
 use Rattle.residual.specs.Quads.{codedQuad}
-use Rattle.residual.proofs.InRange.{part-in-range}
 use Rattle.residual.proofs.Quads.{uncoded}
 use Rattle.transform_8x8.specs.Inverse8x8.{inverse8x8, inRange8x8}
 use Rattle.transform_8x8.proofs.Columns.{of-block}

@@ -5,7 +5,7 @@ use mir.Syntax.{w32}
 use mir.Val.{toZ, ofZ}
 use borrow.Author.Tests.{eqb-true}
 use Rattle.laws.proofs.Tests.{not-both}
-use Rattle.residual.specs.Numbers.{isZero}
+use Rattle.numbers.specs.Numbers.{isZero}
 use Rattle.transform_8x8.proofs.Firsts.{rest-zero}
 use borrow.Author.Needs.{needs}
 use Rattle.transform_8x8.proofs.inverse.only_first.Statement.{statement}

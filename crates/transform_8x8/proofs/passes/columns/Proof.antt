@@ -9,8 +9,8 @@ use lib.ListN.{length}
 use Rattle.laws.specs.Range.{AllWithin, at}
 use Rattle.laws.specs.Table.{allBelow}
 use Rattle.laws.proofs.Tests.{all-start, all-after}
+use Rattle.numbers.specs.Numbers.{inRange, allOf, held, lastInRange}
 use Rattle.residual.specs.Inverse.{rounded}
-use Rattle.residual.specs.Numbers.{inRange, allOf, held, lastInRange}
 use Rattle.transform_8x8.specs.Inverse8x8.{thirdStep, oneDimensional}
 use Rattle.transform_8x8.specs.inner.ByColumn.{ByColumn, columnAt}
 use Rattle.transform_8x8.specs.inner.Told.{oddOf, allOfEight, columnIn, columnTold}

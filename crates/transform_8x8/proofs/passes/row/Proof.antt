@@ -6,7 +6,7 @@ use native.Mathlib.Nat.{add-zero}
 use lib.IntN.{ℤ}
 use Rattle.laws.specs.Range.{Within, at}
 use Rattle.laws.proofs.Ints.{within-back, within-more}
-use Rattle.residual.proofs.InRange.{all-within}
+use Rattle.numbers.proofs.InRange.{all-within}
 use Rattle.transform_8x8.specs.Inverse8x8.{firstStep, oneDimensional, eRow, fRow, gRow}
 use Rattle.transform_8x8.proofs.Eights.{eight, eight-within, word, first-words, all-words}
 use borrow.Author.Needs.{needs}

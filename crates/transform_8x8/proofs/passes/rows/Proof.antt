@@ -10,7 +10,7 @@ use Rattle.laws.specs.Range.{at}
 use Rattle.laws.specs.Table.{onto, allBelow}
 use Rattle.laws.proofs.Ontos.{onto-none, onto-all, onto-long}
 use Rattle.laws.proofs.Tests.{all-none, all-next}
-use Rattle.residual.specs.Numbers.{inRange, allOf, held}
+use Rattle.numbers.specs.Numbers.{inRange, allOf, held}
 use Rattle.transform_8x8.specs.Inverse8x8.{gRow}
 use Rattle.transform_8x8.specs.inner.ByColumn.{rowAt}
 use Rattle.transform_8x8.specs.inner.Told.{oddOf, rowTold}

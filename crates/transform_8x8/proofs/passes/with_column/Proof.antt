@@ -7,10 +7,10 @@ use native.Mathlib.Nat.{zero-add}
 use mir.Facts.{toZ-ofZ}
 use Rattle.laws.specs.Range.{at}
 use Rattle.laws.specs.Table.{allBelow}
-use Rattle.residual.specs.Numbers.{inRange, held}
-use Rattle.residual.proofs.Far.{near-each}
 use borrow.Author.Needs.{needs, sfits-of}
 use borrow.Author.Needs.{needs}
+use Rattle.numbers.specs.Numbers.{inRange, held}
+use Rattle.numbers.proofs.Far.{near-each}
 use Rattle.transform_8x8.proofs.passes.with_column.Statement.{statement}
 use Rattle.transform_8x8.proofs.passes.with_column.Tie as tie
 

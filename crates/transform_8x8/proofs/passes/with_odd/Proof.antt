@@ -3,8 +3,8 @@ use mathlib.Core.Path.{ap, _∙_}
 use mathlib.Core.Bool.{_&&_}
 use mir.Facts.{toZ-ofZ}
 use Rattle.laws.specs.Table.{allBelow}
-use Rattle.residual.specs.Numbers.{held}
-use Rattle.residual.proofs.Far.{near-each}
+use Rattle.numbers.specs.Numbers.{held}
+use Rattle.numbers.proofs.Far.{near-each}
 use Rattle.transform_8x8.specs.inner.Told.{oddOf}
 use borrow.Author.Needs.{needs, sfits-of}
 use borrow.Author.Needs.{needs}

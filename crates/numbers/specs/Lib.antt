@@ -1,0 +1,2 @@
+-- The definitions that the crate's contracts cite.
+pub mod Numbers
