@@ -1,6 +1,6 @@
 -- Numbers in range: what a list of them says of each, and how a loop shows it. Assumes nothing.
 use mathlib.Core.Path.{_≡_, refl, ap, _∙_}
-use mathlib.Core.Bool.{true, false, _&&_}
+use mathlib.Core.Bool.{true, _&&_}
 use mathlib.Core.List.{List, [], _∷_}
 use Prim.Native.Nat.{ℕ, zero, suc, _+_, _<_, _≤_}
 use native.Mathlib.Omega.{arith}
@@ -16,7 +16,7 @@ use Rattle.laws.specs.Range.{Within, AllWithin, at, minus}
 use Rattle.laws.proofs.Stretches.{part-at}
 use Rattle.laws.proofs.Ints.{up, dn, parts-add, parts-neg, parts-pos}
 use Rattle.laws.proofs.Tests as tests
-use Rattle.laws.proofs.Tests.{true-T, T-true, same-test, and-left, and-right, and-of, and-no, all-of}
+use Rattle.laws.proofs.Tests.{true-T, T-true, same-test, and-left, and-right, and-of, all-of}
 use Rattle.numbers.specs.Numbers.{inRange, allInRange, allOf, lastInRange}
 
 pub in-range-within : (z : ℤ) → inRange z ≡ true → Within 32768 z
@@ -83,7 +83,7 @@ all-within s e = record { each = λ k. in-range-within (at s k) (all-at s k e) }
 pub both-within : (a b : List ℤ) → allInRange a && allInRange b ≡ true → AllWithin 32768 a × AllWithin 32768 b
 both-within a b e = (all-within a (and-left (allInRange a) (allInRange b) e), all-within b (and-right (allInRange a) (allInRange b) e))
 
--- the test of the whole list, from a loop that passed every number, and from one that did not pass number k
+-- the test of the whole list, from a loop that passed every number
 pub all-true : (s : List ℤ) → ((k : ℕ) → k < length s → inRange (at s k) ≡ true) → allInRange s ≡ true
 unfolding allInRange
 all-true [] h = refl
@@ -92,12 +92,6 @@ all-true (z ∷ s) h = rw (h 0 (omega arith), all-true s (λ k l. h (suc k) (ome
 -- a part of such a list
 pub part-in-range : (a n : ℕ) (s : List ℤ) → allInRange s ≡ true → allInRange (midOf a n s) ≡ true
 part-in-range a n s e = all-true (midOf a n s) (λ k h. ap inRange (part-at (pos 0) s a n k (omega (arith, length-take n (drop a s)))) ∙ all-at s (a + k) e)
-
-pub all-false : (s : List ℤ) (k : ℕ) → inRange (at s k) ≡ false → allInRange s ≡ false
-unfolding inRange allInRange
-all-false [] k e = e
-all-false (z ∷ s) zero e = rw e
-all-false (z ∷ s) (suc k) e = and-no (inRange z) (allInRange s) (all-false s k e)
 
 -- the test of a list is that of each of its numbers
 pub in-range-all : (s : List ℤ) → allOf inRange s ≡ allInRange s

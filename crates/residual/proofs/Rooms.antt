@@ -12,7 +12,7 @@ use lib.IntN.{ℤ, pos}
 use lib.ListN.{length}
 use Rattle.laws.specs.Answer.{_unless_, answer, written}
 use Rattle.laws.specs.Range.{at}
-use Rattle.laws.specs.Table.{table, allBlocks}
+use Rattle.laws.specs.Table.{table, allBlocks, blockwise}
 use Rattle.laws.proofs.Answers.{holds, passes, refused, put}
 use Rattle.laws.proofs.Blockwise.{number-in}
 use Rattle.laws.proofs.Tables.{length-table}
@@ -21,7 +21,7 @@ use Rattle.numbers.specs.Numbers.{inRange, allInRange}
 use Rattle.numbers.proofs.InRange.{all-true}
 use Rattle.numbers.proofs.InRange as in-range
 use Rattle.residual.specs.Inverse.{inverseAnswer}
-use Rattle.residual.specs.Quads.{markAnswer, blocksAnswer}
+use Rattle.residual.specs.Quads.{codedQuad, codedQuads, markAnswer, blocksAnswer}
 use Rattle.residual.specs.Reconstruct.{rowsIn, intoRoom, sumsRoom, sumsAnswer}
 
 -- row y of the prediction and of the written block of side n lie in their buffers
@@ -97,36 +97,58 @@ blocks-numbers n good some numbers l whole g =
     let block = table n (λ i. at l (n * (k / n) + i)) in
     ap inRange (p .1) ∙ in-range.all-at block (k % n) (numbers block (length-table (pos 0) n _) (all-at (length l / n) _ g (k / n) (p .0))))
 
--- ---- the marks of a list's quads, made before its blocks: r is what is answered for the lengths, and b tells of the numbers
-module _ (l : List ℤ) (marks : ℕ) {r : ℕ} {b : Bool} (e : r ≡ markAnswer (length l) marks) (t : b ≡ written r false (allInRange l)) where
-  pub answered : (places : ℕ) → length l ≡ places → r ≡ blocksAnswer l places marks
-  answered places long = e ∙ sym (holds 2 (2 unless eqb (length l % 64) 0 ∷ 2 unless eqb (length l / 64) marks ∷ []) (eq-eqb (length l) places long))
+-- ---- a call that marks the quads of a list, and then puts the residuals of its blocks of n
+-- what it says: r of the lengths, b of the range, and what is left in the two lists that it was lent
+abbrev pub Said : (n : ℕ) → (List ℤ → Bool) → (List ℤ → List ℤ) → (l old : List ℤ) → List ℕ → ℕ → Bool → List ℤ → List ℕ → Type 0
+Said n good inverse l old coded r b out marks =
+    (r ≡ blocksAnswer l (length old) (length coded))
+    × ((b ≡ written r false (allBlocks n good l))
+    × ((out ≡ written r old (cond (allInRange l) (blockwise n inverse l) old)) × (marks ≡ written r coded (codedQuads l))))
 
-  -- where the numbers pass, the lengths do
-  pub marked : b ≡ true → (r ≡ 0) × (allInRange l ≡ true)
-  marked g = go (ℕ-discrete r 0)
+-- what is known where the marks are made, before a residual is: r is what was answered for the lengths, and b tells of the numbers
+pub record Marked (n : ℕ) (good : List ℤ → Bool) (inverse : List ℤ → List ℤ) (l old : List ℤ) (coded : List ℕ) (r : ℕ) (b : Bool) (marks : List ℕ) : Type 0 where
+  pub kept : b ≡ false → Said n good inverse l old coded r b old marks
+  pub passed : b ≡ true → ((length l ≡ 64 * length marks) × (length l ≡ length old) × (allInRange l ≡ true)) × (marks ≡ codedQuads l)
+  pub made : b ≡ true → (g : Bool) (out : List ℤ) → (g ≡ allBlocks n good l) × (out ≡ blockwise n inverse l) → Said n good inverse l old coded 0 g out marks
+
+module _ (n : ℕ) (good : List ℤ → Bool) (inverse : List ℤ → List ℤ) (some : 0 < n) (numbers : (d : List ℤ) → length d ≡ n → good d ≡ true → allInRange d ≡ true)
+    (l old : List ℤ) (coded : List ℕ) (long : length l ≡ length old) (more : length l % 64 ≡ 0 → length l % n ≡ 0) where
+  pub marked : {r : ℕ} {b : Bool} {marks : List ℕ}
+      → (r ≡ markAnswer (length l) (length coded)) × ((b ≡ written r false (allInRange l)) × (marks ≡ written r coded (codedQuads l)))
+      → Marked n good inverse l old coded r b marks
+  marked {r} {b} {marks} (e, (t, w)) = record { kept = λ h. (answered, keeps h (ℕ-discrete r 0)); passed = passes-all; made = makes }
     where
-      go : Dec (r ≡ 0) → (r ≡ 0) × (allInRange l ≡ true)
-      go (yes z) = (z, sym (put false (allInRange l) z) ∙ sym t ∙ g)
-      go (no z) = absurd (not-both g (t ∙ refused r false (allInRange l) z))
+      answered : r ≡ blocksAnswer l (length old) (length coded)
+      answered = e ∙ sym (holds 2 (2 unless eqb (length l % 64) 0 ∷ 2 unless eqb (length l / 64) (length coded) ∷ []) (eq-eqb (length l) (length old) long))
 
-  pub whole : r ≡ 0 → (length l % 64 ≡ 0) × (length l / 64 ≡ marks)
-  whole z =
-      let p = passes 1 (eqb (length l % 64) 0) (2 unless eqb (length l / 64) marks ∷ []) (sym e ∙ z) in
-      (eqb-true (length l % 64) 0 (p .0), eqb-true (length l / 64) marks (passes 1 (eqb (length l / 64) marks) [] (p .1) .0))
+      whole : r ≡ 0 → length l % 64 ≡ 0
+      whole z = eqb-true (length l % 64) 0 (passes 1 (eqb (length l % 64) 0) (2 unless eqb (length l / 64) (length coded) ∷ []) (sym e ∙ z) .0)
 
-  -- where they do not, neither do the blocks, and nothing is put
-  pub unmarked : (n : ℕ) (good : List ℤ → Bool) → 0 < n → ((d : List ℤ) → length d ≡ n → good d ≡ true → allInRange d ≡ true) → (length l % 64 ≡ 0 → length l % n ≡ 0)
-      → (old new : List ℤ) → b ≡ false → (b ≡ written r false (allBlocks n good l)) × (old ≡ written r old (cond (allInRange l) new old))
-  unmarked n good some numbers more old new g = go (ℕ-discrete r 0)
-    where
-      go : Dec (r ≡ 0) → (b ≡ written r false (allBlocks n good l)) × (old ≡ written r old (cond (allInRange l) new old))
-      go (yes z) =
-          let out : allInRange l ≡ false = sym (put false (allInRange l) z) ∙ sym t ∙ g in (
-            g ∙ sym (no-from (allBlocks n good l) (blocks-numbers n good some numbers l (more (whole z .0))) (λ h. not-both h out)) ∙ sym (put false (allBlocks n good l) z),
-            sym (put old (cond (allInRange l) new old) z ∙ ap (λ t. cond t new old) out),
+      -- where the numbers do not pass, neither do the blocks, and nothing is put
+      keeps : b ≡ false → Dec (r ≡ 0) → (b ≡ written r false (allBlocks n good l))
+          × ((old ≡ written r old (cond (allInRange l) (blockwise n inverse l) old)) × (marks ≡ written r coded (codedQuads l)))
+      keeps h (yes z) =
+          let out : allInRange l ≡ false = sym (put false (allInRange l) z) ∙ sym t ∙ h in (
+            h ∙ sym (no-from (allBlocks n good l) (blocks-numbers n good some numbers l (more (whole z))) (λ g. not-both g out)) ∙ sym (put false (allBlocks n good l) z),
+            (sym (put old (cond (allInRange l) (blockwise n inverse l) old) z ∙ ap (λ t. cond t (blockwise n inverse l) old) out), w),
           )
-      go (no z) = (g ∙ sym (refused r false (allBlocks n good l) z), sym (refused r old (cond (allInRange l) new old) z))
+      keeps h (no z) = (h ∙ sym (refused r false (allBlocks n good l) z), (sym (refused r old (cond (allInRange l) (blockwise n inverse l) old) z), w))
+
+      -- where they do, the lengths do
+      zero-in : b ≡ true → Dec (r ≡ 0) → (r ≡ 0) × (allInRange l ≡ true)
+      zero-in h (yes z) = (z, sym (put false (allInRange l) z) ∙ sym t ∙ h)
+      zero-in h (no z) = absurd (not-both h (t ∙ refused r false (allInRange l) z))
+
+      passes-all : b ≡ true → ((length l ≡ 64 * length marks) × (length l ≡ length old) × (allInRange l ≡ true)) × (marks ≡ codedQuads l)
+      passes-all h =
+          let p = zero-in h (ℕ-discrete r 0) in
+          let m : marks ≡ codedQuads l = w ∙ put coded (codedQuads l) (p .0) in
+          ((omega (arith, whole (p .0), ap length m, length-table 0 (length l / 64) (codedQuad l)), long, p .1), m)
+
+      makes : b ≡ true → (g : Bool) (out : List ℤ) → (g ≡ allBlocks n good l) × (out ≡ blockwise n inverse l) → Said n good inverse l old coded 0 g out marks
+      makes h g out (a, f) =
+          let p = zero-in h (ℕ-discrete r 0) in
+          (sym (p .0) ∙ answered, (a, (f ∙ sym (ap (λ t. cond t (blockwise n inverse l) old) (p .1)), w ∙ put coded (codedQuads l) (p .0))))
 
 -- the lengths that pass
 pub blocks-pass : (l : List ℤ) (places marks : ℕ) → length l ≡ places → length l ≡ 64 * marks → blocksAnswer l places marks ≡ 0

@@ -15,7 +15,6 @@ use Rattle.laws.proofs.Tests.{all-start, all-after}
 use Rattle.numbers.specs.Numbers.{isZero}
 use borrow.Author.Needs.{needs, sfits-of}
 use Rattle.numbers.proofs.Far.{or-below, zero-bits, bits-zero}
-use borrow.Author.Needs.{needs}
 use Rattle.numbers.proofs.reach.any_of.Statement.{statement}
 use Rattle.numbers.proofs.reach.any_of.Tie as tie
 
@@ -54,13 +53,4 @@ returns c =
 pub any-of-spec : {M : Type 1} → statement M
 any-of-spec =
     tie.close
-    (tie.spec
-    Inv-loop
-    μ-loop
-    loop-holds
-    (λ c. search needs)
-    (λ c. search needs)
-    (λ c. search needs)
-    (λ c. search needs)
-    loop-again
-    returns)
+    (tie.spec Inv-loop μ-loop loop-holds (λ c. search needs) (λ c. search needs) (λ c. search needs) (λ c. search needs) loop-again returns)

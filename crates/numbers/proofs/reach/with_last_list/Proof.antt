@@ -11,7 +11,6 @@ use Rattle.laws.proofs.Tests.{all-start, all-after}
 use Rattle.numbers.specs.Numbers.{held, lastInRange}
 use Rattle.numbers.proofs.Far.{or-below, last-range}
 use borrow.Author.Needs.{needs, sfits-of}
-use borrow.Author.Needs.{needs}
 use Rattle.numbers.proofs.reach.with_last_list.Statement.{statement}
 use Rattle.numbers.proofs.reach.with_last_list.Tie as tie
 
@@ -45,14 +44,5 @@ returns c =
 pub with-last-list-spec : {M : Type 1} → statement M
 with-last-list-spec =
     tie.close
-    (tie.spec
-    Inv-loop
-    μ-loop
-    loop-holds
-    (λ c. search needs)
-    (λ c. search needs)
-    (λ c κs. search needs)
-    (λ c. search needs)
-    (λ c. search needs)
-    loop-again
-    returns)
+    (tie.spec Inv-loop μ-loop loop-holds (λ c. search needs) (λ c. search needs) (λ c κs. search needs) (λ c. search needs) (λ c. search needs)
+    loop-again returns)

@@ -12,7 +12,6 @@ use Rattle.laws.proofs.Tests.{all-start, all-after}
 use Rattle.numbers.specs.Numbers.{near}
 use Rattle.numbers.proofs.Far.{or-below}
 use borrow.Author.Needs.{needs, sfits-of}
-use borrow.Author.Needs.{needs}
 use Rattle.numbers.proofs.reach.with_list.Statement.{statement}
 use Rattle.numbers.proofs.reach.with_list.Tie as tie
 
@@ -47,14 +46,5 @@ returns c k =
 pub with-list-spec : {M : Type 1} → statement M
 with-list-spec =
     tie.close
-    (tie.spec
-    Inv-loop
-    μ-loop
-    loop-holds
-    (λ c. search needs)
-    (λ c. search needs)
-    (λ c κs. search needs)
-    (λ c. search needs)
-    (λ c. search needs)
-    loop-again
-    returns)
+    (tie.spec Inv-loop μ-loop loop-holds (λ c. search needs) (λ c. search needs) (λ c κs. search needs) (λ c. search needs) (λ c. search needs)
+    loop-again returns)

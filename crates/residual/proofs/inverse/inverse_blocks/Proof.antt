@@ -1,82 +1,35 @@
 -- `residual::inverse::inverse_blocks` meets its contract: the marks tell first whether the lengths and the numbers pass. Assumes nothing.
-use mathlib.Core.Path.{_≡_, refl, sym, ap, _∙_}
-use mathlib.Core.Bool.{true, cond}
-use Prim.Native.Nat.{_/_, _%_}
+use mathlib.Core.Path.{refl}
 use native.Mathlib.Omega.{arith}
+use borrow.Author.Needs.{needs}
 use borrow.Author.Tests.{ne-eqb, not-true, not-false}
 use lib.Dec.{lit<}
-use lib.ListN.{length}
-use Rattle.laws.specs.Table.{blockwise}
-use Rattle.laws.proofs.Answers.{put}
-use Rattle.laws.proofs.Tables.{length-table}
-use Rattle.numbers.specs.Numbers.{allInRange}
 use Rattle.residual.specs.Inverse.{inverse4x4, inRange4x4}
-use Rattle.residual.specs.Quads.{codedQuad}
 use Rattle.residual.proofs.Halfway.{in-numbers}
-use Rattle.residual.proofs.Rooms.{answered, marked, whole, unmarked}
-use borrow.Author.Needs.{needs}
+use Rattle.residual.proofs.Rooms.{Marked, marked}
 use Rattle.residual.proofs.inverse.inverse_blocks.Statement.{statement}
 use Rattle.residual.proofs.inverse.inverse_blocks.Tie as tie
 
 returns : tie.Need-returns
 returns c = let r = c .refused .ensures in (rw (r .0, ne-eqb _ _ (c .before .if1 .taken)), (rw (r .0) (r .1), (rw (r .0) refl, rw (r .0) refl)))
 
-returns-2 : tie.Need-returns-2
-returns-2 c =
-    let m = c .before .before .before .before in
-    let d = m .before .before in
-    let u = d .before .before in
-    let l = u .args .list .now in
-    let n = length (u .args .coded .now) in
-    let t = unmarked l n (m .mark-coded .ensures .0) (m .mark-coded .ensures .1 .0) 16 inRange4x4 (lit< tt) in-numbers (λ e. omega arith)
-    (u .args .out .now) (blockwise 16 inverse4x4 l) (not-true _ (c .if2 .taken)) in
-    (answered l n (m .mark-coded .ensures .0) (m .mark-coded .ensures .1 .0) _ (d .if1 .left), (t .0, (t .1, m .mark-coded .ensures .1 .1)))
+quads : (m : tie.After-mark-coded) → let a = m .before .before .before .before .args in let k = m .mark-coded in
+    Marked 16 inRange4x4 inverse4x4 (a .list .now) (a .out .now) (a .coded .now) (k .result .answer) (k .result .«in_range») (k .last .1 .0)
+quads m = marked 16 inRange4x4 inverse4x4 (lit< tt) in-numbers _ _ _ (m .before .before .if1 .left) (λ e. omega arith) (m .mark-coded .ensures)
 
--- the lengths and the numbers passed, and the marks are made
-passed : (c : tie.Else2) → let m = c .before .before .before .before in let l = m .before .before .before .before .args .list .now in
-    (m .mark-coded .result .answer ≡ 0) × ((length l % 64 ≡ 0) × (allInRange l ≡ true))
-passed c =
-    let m = c .before .before .before .before in
-    let u = m .before .before .before .before in
-    let l = u .args .list .now in
-    let n = length (u .args .coded .now) in
-    let p = marked l n (m .mark-coded .ensures .0) (m .mark-coded .ensures .1 .0) (not-false _ (c .if2 .left)) in
-    (p .0, (whole l n (m .mark-coded .ensures .0) (m .mark-coded .ensures .1 .0) (p .0) .0, p .1))
+returns-2 : tie.Need-returns-2
+returns-2 c = quads (c .before .before .before .before) .kept (not-true _ (c .if2 .taken))
 
 invert-quads-requires : tie.Need-invert-quads-requires
-invert-quads-requires c κs =
-    let e = c .before .before in
-    let m = e .before .before .before .before in
-    let d = m .before .before in
-    let l = d .before .before .args .list .now in
-    let p = passed e in
-    let made = m .mark-coded .ensures .1 .1 ∙ put _ _ (p .0) in
-    ((omega (arith, p .1 .0, ap length made, length-table 0 (length l / 64) (codedQuad l)), d .if1 .left, p .1 .1), made)
+invert-quads-requires c κs = quads (c .before .before .before .before .before .before) .passed (not-false _ (c .before .before .if2 .left))
 
 returns-3 : tie.Need-returns-3
 returns-3 c =
-    let i = c .before in
-    let e = i .before .before .before in
-    let m = e .before .before .before .before in
-    let d = m .before .before in
-    let u = d .before .before in
-    let l = u .args .list .now in
-    let n = length (u .args .coded .now) in
-    let p = passed e in (
-      sym (p .0) ∙ answered l n (m .mark-coded .ensures .0) (m .mark-coded .ensures .1 .0) _ (d .if1 .left),
-      (i .invert-quads .ensures .0, (i .invert-quads .ensures .1 ∙ sym (ap (λ t. cond t (blockwise 16 inverse4x4 l) (u .args .out .now)) (p .1 .1)), m .mark-coded .ensures .1 .1 ∙ put _ _ (p .0))),
-    )
+    let e = c .before .before .before .before in
+    quads (e .before .before .before .before) .made (not-false _ (e .if2 .left)) _ _ (c .before .invert-quads .ensures)
 
 pub inverse-blocks-spec : {M : Type 1} → statement M
 inverse-blocks-spec =
     tie.close
-    (tie.spec
-    (λ c κs. search needs)
-    returns
-    (λ c κs. search needs)
-    (λ c. search needs)
-    returns-2
-    invert-quads-requires
-    (λ c. search needs)
-    (λ c. search needs)
-    returns-3)
+    (tie.spec (λ c κs. search needs) returns (λ c κs. search needs) (λ c. search needs) returns-2 invert-quads-requires (λ c. search needs)
+    (λ c. search needs) returns-3)

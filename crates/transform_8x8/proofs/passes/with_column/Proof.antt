@@ -8,7 +8,6 @@ use mir.Facts.{toZ-ofZ}
 use Rattle.laws.specs.Range.{at}
 use Rattle.laws.specs.Table.{allBelow}
 use borrow.Author.Needs.{needs, sfits-of}
-use borrow.Author.Needs.{needs}
 use Rattle.numbers.specs.Numbers.{inRange, held}
 use Rattle.numbers.proofs.Far.{near-each}
 use Rattle.transform_8x8.proofs.passes.with_column.Statement.{statement}
@@ -38,30 +37,7 @@ returns c =
 pub with-column-spec : {M : Type 1} → statement M
 with-column-spec =
     tie.close
-    (tie.spec
-    (λ c. search needs)
-    (λ c. search needs)
-    (λ c. search needs)
-    (λ c. search needs)
-    (λ c. search needs)
-    (λ c. search needs)
-    (λ c. search needs)
-    (λ c. search needs)
-    (λ c. search needs)
-    (λ c. search needs)
-    (λ c. search needs)
-    (λ c. search needs)
-    (λ c. search needs)
-    (λ c. search needs)
-    (λ c. search needs)
-    (λ c. search needs)
-    (λ c. search needs)
-    (λ c. search needs)
-    (λ c. search needs)
-    (λ c. search needs)
-    (λ c. search needs)
-    (λ c. search needs)
-    (λ c. search needs)
-    (λ c. search needs)
-    (λ c κs. search needs)
-    returns)
+    (tie.spec (λ c. search needs) (λ c. search needs) (λ c. search needs) (λ c. search needs) (λ c. search needs) (λ c. search needs)
+    (λ c. search needs) (λ c. search needs) (λ c. search needs) (λ c. search needs) (λ c. search needs) (λ c. search needs) (λ c. search needs)
+    (λ c. search needs) (λ c. search needs) (λ c. search needs) (λ c. search needs) (λ c. search needs) (λ c. search needs) (λ c. search needs)
+    (λ c. search needs) (λ c. search needs) (λ c. search needs) (λ c. search needs) (λ c κs. search needs) returns)
