@@ -2,7 +2,7 @@
 use mathlib.Core.Path.{_≡_, refl}
 use mathlib.Core.Bool.{false}
 use Rattle.laws.specs.Table.{someBelow}
-use Rattle.macroblock.specs.Cut.{scanX, scanY, isThere}
+use Rattle.cut.specs.Cut.{scanX, scanY, isThere}
 use Rattle.reads.specs.Groups.{reads8x8}
 use Rattle.reads.specs.Groups.Group.{aboveRight}
 use Rattle.reads.proofs.Tables.{byMarks, at-marks}

@@ -12,10 +12,10 @@ use Rattle.laws.proofs.Tables.{getD-table}
 use Rattle.basics.specs.Clip.{Clip1}
 use Rattle.basics.specs.Near.{Near}
 use Rattle.maps.specs.Neighbours.{Side}
-use Rattle.macroblock.specs.declared.cut.Place.{Place}
+use Rattle.macroblock.specs.declared.place.Place.{Place}
 use Rattle.basics.specs.declared.marks.Sides.{Sides}
-use Rattle.macroblock.specs.Cut.{Cut, scanX, scanY, isThere, sidesOf, squareSides, placeOf}
-use Rattle.macroblock.specs.Square.{putBlock, nearBlock, part}
+use Rattle.cut.specs.Cut.{Cut, scanX, scanY, isThere, sidesOf, squareSides}
+use Rattle.macroblock.specs.Square.{placeOf, putBlock, nearBlock, part}
 use Rattle.macroblock.proofs.Pieces.{put-same}
 
 module _ (c : Cut) (predict : ℕ → Sides → Near → ℕ → ℕ → ℕ) (residual : ℕ → ℕ → ℕ → ℤ) (p : Place) (marks : Side → Bool) (k : ℕ) (some : 0 < c .side)

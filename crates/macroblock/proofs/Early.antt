@@ -16,9 +16,10 @@ use Rattle.basics.specs.Marks.{permittedChroma, modeAnswer}
 use Rattle.maps.specs.Neighbours.{Side}
 use Rattle.maps.specs.Neighbours.Side.{A, B, D}
 use Rattle.macroblock.specs.declared.Record.{Record}
-use Rattle.macroblock.specs.Rules.{used, lastMode, modeKnown, listsGood, known, permittedAt, permitted, permittedRule, knownRule, numbersRule, earlyRules, waitRule, rebuildAnswer}
+use Rattle.cut.specs.Cut.{used}
+use Rattle.cut.proofs.ByKind.{used-few}
+use Rattle.macroblock.specs.Rules.{lastMode, modeKnown, listsGood, known, permittedAt, permitted, permittedRule, knownRule, numbersRule, earlyRules, waitRule, rebuildAnswer}
 use Rattle.macroblock.specs.inner.Blocks.{modeFine}
-use Rattle.macroblock.proofs.ByKind.{used-few}
 
 module _ (marks : Side → Bool) (r : Record) where
   pub record EarlyFine : Type 0 where

@@ -4,7 +4,7 @@ use mathlib.Core.Bool.{Bool, true, false, cond}
 use Prim.Native.Nat.{ℕ, suc, _+_, _*_, _-_, _<_, _≤_, min}
 use native.Mathlib.Nat.{mul-le-mul-right, suc-mul, mul-pos, le-mul-of-pos-right}
 use native.Mathlib.Omega.{arith}
-use Rattle.macroblock.specs.declared.cut.Place.{Place}
+use Rattle.macroblock.specs.declared.place.Place.{Place}
 use Rattle.macroblock.specs.inner.Blocks.{BlockIn, Low}
 
 -- row r of the block

@@ -11,11 +11,12 @@ use lib.Dec.{T, eqb, ltb, leb}
 use Rattle.laws.proofs.Tests.{T-true}
 use Rattle.basics.specs.Nnz.{blkIdx}
 use Rattle.maps.specs.Neighbours.{Side, besideX, besideY}
-use Rattle.macroblock.specs.Cut.{scanX, scanY, nextX, nextY, holderAt, heldBy, isThere, squareSides, placeOf}
+use Rattle.cut.specs.Cut.{scanX, scanY, holderAt, nextX, nextY, heldBy, isThere, squareSides}
 use Rattle.maps.specs.Neighbours.Side.{A, B, C, D}
-use Rattle.macroblock.specs.Cut.Holder.{own, other, nobody}
-use Rattle.macroblock.specs.Square.{placeAt}
-use Rattle.macroblock.specs.inner.Blocks.{Scan, SidesIn}
+use Rattle.cut.specs.Cut.Holder.{own, other, nobody}
+use Rattle.cut.specs.inner.Blocks.{Scan}
+use Rattle.macroblock.specs.Square.{placeAt, placeOf}
+use Rattle.macroblock.specs.inner.Blocks.{SidesIn}
 use Rattle.macroblock.proofs.Places.{At, at-of}
 
 -- the row and the column of sample t on a side of the block of side q in row Y and column Z of blocks

@@ -12,8 +12,9 @@ use lib.Seq.{getD-take}
 use Rattle.laws.specs.Table.{allBelow}
 use Rattle.laws.proofs.Stretches.{part-at}
 use Rattle.laws.proofs.Tests.{true-T, T-true, same-test, and-left, and-right, and-of, all-same, all-split}
-use Rattle.macroblock.specs.Rules.{used, lastMode, modeKnown}
-use Rattle.macroblock.proofs.ByKind.{used-few}
+use Rattle.cut.specs.Cut.{used}
+use Rattle.cut.proofs.ByKind.{used-few}
+use Rattle.macroblock.specs.Rules.{lastMode, modeKnown}
 
 -- 0 and at most 0
 pub none : (m : ℕ) → leb m 0 ≡ eqb m 0

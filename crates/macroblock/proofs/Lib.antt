@@ -1,12 +1,11 @@
 -- The laws about this crate's definitions: the promise to the picture is `promised`, what lies in a block is `Places`, and who holds what stands beside it is
 -- `Held`. Those that are `pub` are for other crates and for a reader; the others serve the proofs here.
-pub mod ByKind
 pub mod Held
 pub mod Locality
 pub mod Places
 pub mod Promised
 pub mod Rooms
-pub mod Scan
+mod ByKind
 mod Drawn
 mod Early
 mod Fitting

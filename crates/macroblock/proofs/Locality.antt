@@ -21,12 +21,13 @@ use Rattle.order.proofs.Parts.{parts-writes, parts-reads}
 use Rattle.basics.specs.Near.{near}
 use Rattle.basics.specs.Nnz.{blkIdx}
 use Rattle.maps.specs.Neighbours.{Side, besideX, besideY}
-use Rattle.macroblock.specs.declared.cut.Place.{Place}
-use Rattle.macroblock.specs.Cut.{Cut, blocks, scanX, scanY, isThere, sidesOf, squareSides, placeOf}
+use Rattle.macroblock.specs.declared.place.Place.{Place}
+use Rattle.cut.specs.Cut.{Cut, blocks, scanX, scanY, isThere, sidesOf, squareSides}
 use Rattle.maps.specs.Neighbours.Side.{A, B, C, D}
+use Rattle.cut.specs.inner.Blocks.{Scan}
 use Rattle.macroblock.specs.Local.{Local}
-use Rattle.macroblock.specs.Square.{inBlock, placeAt, aboveOf, leftOf, cornerOf, Rule, partPlace, partNear, part, allParts}
-use Rattle.macroblock.specs.inner.Blocks.{Scan, BlockIn, StandsIn}
+use Rattle.macroblock.specs.Square.{inBlock, placeAt, placeOf, aboveOf, leftOf, cornerOf, Rule, partPlace, partNear, part, allParts}
+use Rattle.macroblock.specs.inner.Blocks.{BlockIn, StandsIn}
 use Rattle.macroblock.proofs.Held.{rowAt, columnAt, Held, held}
 use Rattle.macroblock.proofs.Places.{At, at-of, at-row, at-column, place-is}
 

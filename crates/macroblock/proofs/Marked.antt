@@ -14,12 +14,11 @@ use Rattle.maps.specs.Neighbours.{Side}
 use Rattle.maps.specs.Neighbours.Side.{A, B, D}
 use Rattle.macroblock.specs.declared.Record.{Record}
 use Rattle.basics.specs.declared.marks.Sides.{Sides}
-use Rattle.macroblock.specs.Cut.{scanX, scanY, sidesOf}
-use Rattle.macroblock.specs.Kinds.{cutFor}
-use Rattle.macroblock.specs.Rules.{used, lastMode, modeKnown, known, permittedFor, permittedAt, permitted}
-use Rattle.macroblock.proofs.ByKind.{scan-for, used-is}
+use Rattle.cut.specs.Cut.{cutFor, used, scanX, scanY, sidesOf}
+use Rattle.cut.proofs.ByKind.{scan-for, used-is}
+use Rattle.cut.proofs.Sides.{above-is, left-is, corner-is}
+use Rattle.macroblock.specs.Rules.{lastMode, modeKnown, known, permittedFor, permittedAt, permitted}
 use Rattle.macroblock.proofs.Early.{used-known}
-use Rattle.macroblock.proofs.Sides.{above-is, left-is, corner-is}
 
 -- ---- with all three sides there, by modes
 nxn : (mode : ℕ) → mode ≤ 8 → permittedNxN true true true mode ≡ true

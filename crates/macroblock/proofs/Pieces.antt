@@ -14,10 +14,11 @@ use Rattle.laws.proofs.Tests.{true-T}
 use Rattle.order.specs.Parts.{Parts}
 use Rattle.order.proofs.Parts.{parts-at, parts-keeps, parts-ok, parts-writes}
 use Rattle.basics.specs.Nnz.{blkIdx}
-use Rattle.macroblock.specs.declared.cut.Place.{Place}
-use Rattle.macroblock.specs.Cut.{scanX, scanY, placeOf}
-use Rattle.macroblock.specs.Square.{inBlock, putBlock}
-use Rattle.macroblock.specs.inner.Blocks.{Scan, BlockIn}
+use Rattle.macroblock.specs.declared.place.Place.{Place}
+use Rattle.cut.specs.Cut.{scanX, scanY}
+use Rattle.cut.specs.inner.Blocks.{Scan}
+use Rattle.macroblock.specs.Square.{inBlock, placeOf, putBlock}
+use Rattle.macroblock.specs.inner.Blocks.{BlockIn}
 use Rattle.macroblock.proofs.Locality.{InPart, block-apart, block-in, block-cover, in-plane}
 use Rattle.macroblock.proofs.Places.{At, at-row, at-column}
 

@@ -11,7 +11,7 @@ use Rattle.laws.proofs.Digits.{Placed, placed}
 use Rattle.laws.proofs.Patches.{patch-same}
 use Rattle.laws.proofs.Tests.{both-left, both-right, both-of, same-test}
 use Rattle.residual.specs.Reconstruct.{inSquare, putSquare}
-use Rattle.macroblock.specs.declared.cut.Place.{Place}
+use Rattle.macroblock.specs.declared.place.Place.{Place}
 use Rattle.macroblock.specs.Square.{inBlock, putBlock}
 
 module _ (q s Y Z i : ℕ) where

@@ -10,7 +10,7 @@ use Rattle.laws.specs.Answer.{_unless_, answer, written}
 use Rattle.laws.proofs.Answers.{put}
 use Rattle.laws.proofs.Tables.{length-table}
 use Rattle.basics.specs.Marks.{modeAnswer}
-use Rattle.macroblock.specs.declared.cut.Place.{Place}
+use Rattle.macroblock.specs.declared.place.Place.{Place}
 use Rattle.basics.specs.declared.marks.Sides.{Sides}
 use Rattle.macroblock.specs.Square.{aboveOf, leftOf}
 

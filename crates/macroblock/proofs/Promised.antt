@@ -6,15 +6,15 @@ use native.Mathlib.Omega.{arith}
 use Rattle.maps.specs.Neighbours.{Side}
 use Rattle.macroblock.specs.declared.Record.{Record}
 use Rattle.macroblock.specs.declared.Strides.{Strides}
-use Rattle.macroblock.specs.Cut.{four, eight, whole, squareSides}
-use Rattle.macroblock.specs.Kinds.{cutFor, lumaRule, chromaRule}
+use Rattle.cut.specs.Cut.{four, eight, whole, cutFor, squareSides}
+use Rattle.cut.proofs.Scan.{scan-1, scan-2, scan-4}
+use Rattle.macroblock.specs.Kinds.{lumaRule, chromaRule}
 use Rattle.macroblock.specs.Local.{Local, Promise}
 use Rattle.macroblock.specs.Rules.{rooms}
 use Rattle.macroblock.specs.Square.{Rule, placeAt, allParts}
 use Rattle.macroblock.specs.inner.Blocks.{StandsIn}
 use Rattle.macroblock.proofs.Locality.{square-local}
 use Rattle.macroblock.proofs.Rooms.{all-stand}
-use Rattle.macroblock.proofs.Scan.{scan-1, scan-2, scan-4}
 
 module _ (rule : Rule) (n s x y : ℕ) (marks : Side → Bool) where
   luma-local : (kind : ℕ) → StandsIn 16 (placeAt s y x) n (squareSides marks) → Local n 16 s x y marks (allParts (cutFor kind) rule s x y marks)

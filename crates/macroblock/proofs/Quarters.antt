@@ -9,13 +9,13 @@ use Rattle.laws.specs.Steps.{upTo}
 use Rattle.laws.proofs.Patches.{length-patch}
 use Rattle.laws.proofs.Steps.{steps-none, steps-more, steps-length}
 use Rattle.basics.specs.Nnz.{blkIdx}
-use Rattle.macroblock.specs.declared.cut.Place.{Place}
-use Rattle.macroblock.specs.Cut.{scanX, scanY}
+use Rattle.macroblock.specs.declared.place.Place.{Place}
+use Rattle.cut.specs.Cut.{scanX, scanY}
+use Rattle.cut.proofs.Scan.{scan-2}
 use Rattle.macroblock.specs.Square.{inBlock, placeAt, putBlock}
 use Rattle.macroblock.specs.inner.Blocks.{BlockIn, RoomIn}
 use Rattle.macroblock.proofs.Fitting.{in-row}
 use Rattle.macroblock.proofs.Pieces.{putPiece, wholeOf, pieces-are, put-same}
-use Rattle.macroblock.proofs.Scan.{scan-2}
 use Rattle.macroblock.proofs.Sides.{in-block}
 
 -- the rule of piece k where it stands

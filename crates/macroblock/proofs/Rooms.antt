@@ -9,7 +9,7 @@ use Rattle.laws.proofs.Tests.{and-left, and-right, and-both, implied}
 use Rattle.maps.specs.Neighbours.{Side}
 use Rattle.maps.specs.Neighbours.Side.{A, B, C, D}
 use Rattle.macroblock.specs.declared.Strides.{Strides}
-use Rattle.macroblock.specs.Cut.{squareSides}
+use Rattle.cut.specs.Cut.{squareSides}
 use Rattle.macroblock.specs.Square.{placeAt}
 use Rattle.macroblock.specs.Rules.{room, rooms}
 use Rattle.macroblock.specs.inner.Blocks.{StandsIn}

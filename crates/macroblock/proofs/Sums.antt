@@ -13,10 +13,11 @@ use Rattle.laws.proofs.Stretches.{part-at}
 use Rattle.basics.specs.Clip.{Clip1}
 use Rattle.basics.specs.Nnz.{blkIdx}
 use Rattle.residual.specs.Reconstruct.{putSquare}
-use Rattle.macroblock.specs.declared.cut.Place.{Place}
+use Rattle.macroblock.specs.declared.place.Place.{Place}
+use Rattle.cut.specs.inner.Blocks.{Scan}
 use Rattle.macroblock.specs.Kinds.{residualIn}
 use Rattle.macroblock.specs.Square.{putBlock}
-use Rattle.macroblock.specs.inner.Blocks.{Scan, BlockIn, RoomIn, Transformed, sumOver, inPiece, inPieces}
+use Rattle.macroblock.specs.inner.Blocks.{BlockIn, RoomIn, Transformed, sumOver, inPiece, inPieces}
 use Rattle.macroblock.proofs.Pieces.{put-same}
 use Rattle.macroblock.proofs.Places.{put-is-put}
 

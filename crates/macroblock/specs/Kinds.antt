@@ -18,7 +18,7 @@ use Rattle.basics.specs.Nnz.{blkIdx}
 use Rattle.maps.specs.Neighbours.{Side}
 use Rattle.macroblock.specs.declared.Record.{Record}
 use Rattle.basics.specs.declared.marks.Sides.{Sides}
-use Rattle.macroblock.specs.Cut.{Cut, four, eight, whole}
+use Rattle.cut.specs.Cut.{whole, cutFor}
 use Rattle.macroblock.specs.Square.{Rule, allParts}
 
 -- a record by its parts, as a call is given them
@@ -49,11 +49,6 @@ residualL (suc zero) numbers k x y = residual8x8 numbers k x y
 residualL (suc (suc _)) numbers k x y = residualIn numbers 0 x y
 
 -- ---- luma, by kind
-abbrev pub cutFor : ℕ → Cut
-cutFor zero = four
-cutFor (suc zero) = eight
-cutFor (suc (suc _)) = whole 16
-
 abbrev pub predFor : ℕ → ℕ → Sides → Near → ℕ → ℕ → ℕ
 predFor zero mode sides p = pred4x4L mode (sides .above) (sides .left) (sides .corner) p
 predFor (suc zero) mode sides p = pred8x8L mode (sides .above) (sides .left) (sides .corner) p

@@ -14,9 +14,9 @@ use Rattle.maps.specs.Neighbours.{Side}
 use Rattle.macroblock.specs.declared.Record.{Record}
 use Rattle.macroblock.specs.declared.Strides.{Strides}
 use Rattle.basics.specs.declared.marks.Sides.{Sides}
-use Rattle.macroblock.specs.Cut.{sidesOf}
+use Rattle.cut.specs.Cut.{cutFor, used, sidesOf}
 use Rattle.maps.specs.Neighbours.Side.{A, B, C, D}
-use Rattle.macroblock.specs.Kinds.{coefficients, cutFor}
+use Rattle.macroblock.specs.Kinds.{coefficients}
 
 -- 2: in a plane of `len` samples with stride s, at most 4096, lie the square of side q at (x, y) and each marked neighbour: A and D have a column of squares
 -- before it, B, C and D a row above it, and C a column after it
@@ -39,11 +39,6 @@ unfoldable pub listsGood : Record → Bool
 listsGood r = eqb (length (r .modes)) 16 && eqb (length (r .numbers)) 384
 
 -- 6: the kind is known, each mode that it uses is known, and each unused one is 0
-abbrev pub used : ℕ → ℕ
-used zero = 16
-used (suc zero) = 4
-used (suc (suc _)) = 1
-
 abbrev pub lastMode : ℕ → ℕ
 lastMode zero = 8
 lastMode (suc zero) = 8

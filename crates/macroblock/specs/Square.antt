@@ -10,9 +10,9 @@ use Rattle.laws.specs.Steps.{upTo}
 use Rattle.laws.specs.Table.{table}
 use Rattle.basics.specs.Near.{Near, near}
 use Rattle.maps.specs.Neighbours.{Side}
-use Rattle.macroblock.specs.declared.cut.Place.{Place}
+use Rattle.macroblock.specs.declared.place.Place.{Place}
 use Rattle.basics.specs.declared.marks.Sides.{Sides}
-use Rattle.macroblock.specs.Cut.{Cut, blocks, sidesOf, placeOf}
+use Rattle.cut.specs.Cut.{Cut, blocks, scanX, scanY, sidesOf}
 
 -- a plane cut into blocks of one side: place i lies in the block in that row and column of blocks
 abbrev pub inBlock : (side stride row column i : ℕ) → Bool
@@ -20,6 +20,10 @@ inBlock side stride row column i = eqb (i / stride / side) row && eqb (i % strid
 
 abbrev pub placeAt : (stride row column : ℕ) → Place
 placeAt stride row column = record { stride = stride; row = row; column = column }
+
+-- 6.4.3: where block k stands, of m across in a square that stands at p
+abbrev pub placeOf : ℕ → Place → ℕ → Place
+placeOf m p k = record { stride = p .stride; row = p .row * m + scanY k; column = p .column * m + scanX k }
 
 -- the plane with the block at p put anew: u x y in its column x and row y
 abbrev pub putBlock : ℕ → Place → (ℕ → ℕ → ℕ) → List ℕ → List ℕ

@@ -7,7 +7,7 @@ ghost use lib.ListN.{length, getD, replicate};
 ghost use Rattle.laws.specs.Patch.{patch};
 ghost use Rattle.macroblock.specs.Square.{aboveOf, leftOf, cornerOf};
 ghost use Rattle.macroblock.specs.inner.Blocks.{StandsIn, BlankTop, Blank};
-use super::cut::Place;
+use super::place::Place;
 use basics::marks::Sides;
 
 // All of them: above, as many as `top` takes, and left, in lists that come filled with zeros, and the corner.

@@ -7,21 +7,20 @@ ghost use Rattle.laws.specs.Answer.{answer, written};
 ghost use Rattle.maps.specs.Neighbours.{marksOf};
 ghost use Rattle.macroblock.specs.Kinds.{recordOf, lumaSquare, cbSquare, crSquare};
 ghost use Rattle.macroblock.specs.Rules.{rooms, earlyRules, numbersRule, rebuildAnswer};
-use cut::Spot;
 use maps::neighbours::Marks;
+use place::Spot;
 use planes::all_squares;
 use residuals::residuals_of;
 use rules::has_rooms;
 use rules::record_answer;
 
 mod beside; // the samples beside a block
-pub mod cut; // 6.4: where blocks stand and which of their sides are there
+mod place; // 6.4.3: where blocks stand in their planes
 mod planes; // the square of each plane, block by block
 mod predict; // 8.3: predictions
 mod put; // 8.5.14: sums
 mod residuals; // 8.5.1 to 8.5.4: residuals, and refusal 8
-pub mod rules; // refusals 2, 6 and 7
-pub mod scan_xy; // 6.4.3: the order of the luma blocks
+mod rules; // refusals 2, 6 and 7
 
 // A macroblock: its kind, 0 for 4x4, 1 for 8x8 and 2 for 16x16, its luma modes, its chroma mode, and 256 numbers for luma, 64 for Cb and 64 for Cr.
 pub struct Record {

@@ -7,16 +7,13 @@ ghost use lib.IntN.{ℤ, pos};
 ghost use lib.ListN.{length};
 ghost use Rattle.laws.specs.Range.{at};
 ghost use Rattle.maps.specs.Neighbours.{marksOf};
-ghost use Rattle.macroblock.specs.Cut.{four, eight, whole};
-ghost use Rattle.macroblock.specs.Kinds.{cutFor, lumaRule, chromaRule};
-ghost use Rattle.macroblock.specs.Rules.{used};
+ghost use Rattle.cut.specs.Cut.{four, eight, whole, cutFor, used};
+ghost use Rattle.macroblock.specs.Kinds.{lumaRule, chromaRule};
 ghost use Rattle.macroblock.specs.Square.{part, allParts};
 ghost use Rattle.macroblock.specs.inner.Blocks.{LumaReady, ChromaReady, Coded, Transformed, firstFor};
-use super::cut::Place;
-use super::cut::Spot;
-use super::cut::place_of;
-use super::cut::sides_of;
-use super::cut::square_sides;
+use super::place::Place;
+use super::place::Spot;
+use super::place::place_of;
 use super::predict::predict_4x4;
 use super::predict::predict_8x8;
 use super::predict::predict_16x16;
@@ -25,7 +22,9 @@ use super::put::put_4x4;
 use super::put::put_8x8;
 use super::put::put_16x16;
 use super::put::put_quad;
-use super::rules::used_modes;
+use cut::sides_at;
+use cut::square_sides;
+use cut::used_modes;
 
 // All three squares of a record that is not refused, with a mark for each 64 residuals.
 pub(crate) fn all_squares(
@@ -65,7 +64,7 @@ fn block_4x4(plane: &mut [u8], spot: Spot, modes: &[u8], residuals: &[i16], k: u
         ≡ part four (lumaRule 0 (now (modes .entry)) numbers) (spot .strides .luma) (spot .x) (spot .y) (marksOf (spot .marks)) k (now (plane .entry))) ⌝ }
 {
     let block = place_of(k, 4, spot);
-    let sides = sides_of(k, 4, spot.marks);
+    let sides = sides_at(0, k, spot.marks);
     let mut pred = [0u8; 16];
     predict_4x4(plane, block, sides, modes[k], &mut pred);
     put_4x4(plane, block, &pred, residuals, k);
@@ -79,7 +78,7 @@ fn block_8x8(plane: &mut [u8], spot: Spot, modes: &[u8], residuals: &[i16], code
         ≡ part eight (lumaRule 1 (now (modes .entry)) numbers) (spot .strides .luma) (spot .x) (spot .y) (marksOf (spot .marks)) k (now (plane .entry))) ⌝ }
 {
     let block = place_of(k, 2, spot);
-    let sides = sides_of(k, 2, spot.marks);
+    let sides = sides_at(1, k, spot.marks);
     let mut pred = [0u8; 64];
     predict_8x8(plane, block, sides, modes[k], &mut pred);
     let some = coded[k] != 0;

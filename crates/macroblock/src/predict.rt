@@ -9,7 +9,7 @@ ghost use Rattle.basics.specs.Marks.{permittedNxN, permitted16x16, permittedChr
 ghost use Rattle.macroblock.specs.Square.{nearBlock};
 ghost use Rattle.macroblock.specs.inner.Blocks.{StandsIn};
 use super::beside::read_beside;
-use super::cut::Place;
+use super::place::Place;
 use basics::marks::Sides;
 
 pub(crate) fn predict_4x4(plane: &[u8], place: Place, sides: Sides, mode: u8, pred: &mut [u8])

@@ -8,9 +8,9 @@ ghost use Rattle.laws.specs.Range.{at};
 ghost use Rattle.residual.specs.Reconstruct.{putSquare};
 ghost use Rattle.macroblock.specs.Square.{putBlock};
 ghost use Rattle.macroblock.specs.inner.Blocks.{BlockIn, RoomIn, Coded, inPiece, inPieces, sumOver, added};
-use super::cut::Place;
-use super::cut::scan_x;
-use super::cut::scan_y;
+use super::place::Place;
+use cut::scan_x;
+use cut::scan_y;
 use residual::reconstruct::sum_of;
 
 // Luma block b of kind 0, from its prediction and its sixteen residuals.

@@ -11,12 +11,12 @@ ghost use Rattle.laws.specs.Answer.{answer};
 ghost use Rattle.laws.specs.Table.{allBelow};
 ghost use Rattle.maps.specs.Neighbours.{marksOf};
 ghost use Rattle.macroblock.specs.Kinds.{recordOf};
-ghost use Rattle.macroblock.specs.Rules.{room, rooms, used, lastMode, permittedFor, known, permitted, earlyRules};
-use super::cut::Spot;
-use super::cut::across;
-use super::cut::sides_of;
+ghost use Rattle.macroblock.specs.Rules.{room, rooms, lastMode, permittedFor, known, permitted, earlyRules};
+use super::place::Spot;
 use basics::marks::Sides;
 use basics::tests::both;
+use cut::sides_at;
+use cut::used_modes;
 use maps::neighbours::Marks;
 
 // Whether the square of side q at (x, y), and each marked neighbour, lies in a plane of `len` samples.
@@ -113,19 +113,6 @@ fn greater(a: u8, b: u8) -> u8
     if a < b { b } else { a }
 }
 
-// How many luma modes a kind uses: one for each of its blocks.
-pub fn used_modes(kind: u8) -> usize
-    ensures { λ r. ⌜ r ≡ used kind ⌝ }
-{
-    if kind == 0 {
-        16
-    } else if kind == 1 {
-        4
-    } else {
-        1
-    }
-}
-
 fn last_mode(kind: u8) -> u8
     ensures { λ r. ⌜ r ≡ lastMode kind ⌝ }
 {
@@ -142,10 +129,9 @@ fn is_permitted(marks: Marks, kind: u8, modes: &[u8], chroma_mode: u8) -> bool
         return true;
     }
     let n = used_modes(kind);
-    let m = across(kind);
     let mut k = 0;
     while k < n {
-        if !permits(kind, sides_of(k, m, marks), modes[k]) {
+        if !permits(kind, sides_at(kind, k, marks), modes[k]) {
             return false;
         }
         k += 1;

@@ -13,10 +13,10 @@ use Rattle.basics.specs.Nnz.{blkIdx}
 use Rattle.maps.specs.Neighbours.{Side, marksOf}
 use Rattle.maps.specs.Neighbours.Side.{A, B, C, D}
 use Rattle.maps.specs.declared.neighbours.Marks.{Marks}
-use Rattle.macroblock.specs.Cut.{Holder, holderAt, scanX, scanY, scanColumns, scanRows, scan-figure, heldBy, isThere, sidesOf}
-use Rattle.macroblock.specs.Cut.Holder.{own, other, nobody}
-use Rattle.macroblock.specs.inner.Blocks.{BlockOf}
-use Rattle.macroblock.proofs.Scan.{few-blocks}
+use Rattle.cut.specs.Cut.{scanX, scanY, scanColumns, scanRows, scan-figure, Holder, holderAt, heldBy, isThere, sidesOf}
+use Rattle.cut.specs.Cut.Holder.{own, other, nobody}
+use Rattle.cut.specs.inner.Blocks.{BlockOf}
+use Rattle.cut.proofs.Scan.{few-blocks}
 use Rattle.reads.specs.Groups.{Group, groupsOf}
 use Rattle.reads.specs.Groups.Group.{above, left, corner, aboveRight}
 use Rattle.reads.proofs.Tables.{byTest, byMarks, at-test, at-marks}

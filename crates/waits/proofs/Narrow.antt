@@ -10,15 +10,15 @@ use Rattle.laws.proofs.Tests.{and-left, and-right, and-both, and-of, all-at, or
 use Rattle.basics.specs.Marks.{permittedChroma}
 use Rattle.maps.specs.Neighbours.{Side}
 use Rattle.maps.specs.Neighbours.Side.{A, B, D}
-use Rattle.macroblock.specs.Cut.{whole, scanX, scanY, isThere, sidesOf, squareSides}
-use Rattle.macroblock.specs.Kinds.{cutFor, residualL, residualIn, lumaRule, chromaRule}
+use Rattle.cut.specs.Cut.{whole, cutFor, used, scanX, scanY, isThere, sidesOf, squareSides}
+use Rattle.cut.proofs.Scan.{scan-1, scan-2, scan-4}
+use Rattle.macroblock.specs.Kinds.{residualL, residualIn, lumaRule, chromaRule}
 use Rattle.macroblock.specs.Local.{Local}
-use Rattle.macroblock.specs.Rules.{used, permittedAt, permitted}
+use Rattle.macroblock.specs.Rules.{permittedAt, permitted}
 use Rattle.macroblock.specs.Square.{placeAt, allParts}
 use Rattle.macroblock.specs.declared.Record.{Record}
 use Rattle.macroblock.specs.inner.Blocks.{StandsIn}
 use Rattle.macroblock.proofs.Rooms.{all-stand}
-use Rattle.macroblock.proofs.Scan.{scan-1, scan-2, scan-4}
 use Rattle.reads.specs.Exactly.{Predictor, Exactly, chroma8x8, luma4x4, luma8x8, luma16x16, permits}
 use Rattle.reads.specs.Groups.{Group, groupsOf}
 use Rattle.reads.proofs.Exactly.{exactly-4x4, exactly-8x8, exactly-16x16, exactly-chroma, unread-4x4, unread-8x8, unread-16x16, unread-chroma}

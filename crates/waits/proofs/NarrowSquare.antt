@@ -21,11 +21,12 @@ use Rattle.basics.specs.Near.{near, Agree}
 use Rattle.basics.proofs.Near.{near-above, near-left}
 use Rattle.maps.specs.Neighbours.{Side, besideX, besideY}
 use Rattle.maps.specs.Neighbours.Side.{A, B, C, D}
-use Rattle.macroblock.specs.Cut.{Cut, scanX, scanY, Holder, heldBy, isThere, sidesOf, squareSides}
-use Rattle.macroblock.specs.Cut.Holder.{own, other, nobody}
+use Rattle.cut.specs.Cut.{Cut, scanX, scanY, Holder, heldBy, isThere, sidesOf, squareSides}
+use Rattle.cut.specs.Cut.Holder.{own, other, nobody}
+use Rattle.cut.specs.inner.Blocks.{Scan}
 use Rattle.macroblock.specs.Local.{Local}
 use Rattle.macroblock.specs.Square.{placeAt, aboveOf, leftOf, cornerOf, Rule, partNear, part, allParts}
-use Rattle.macroblock.specs.inner.Blocks.{Scan, SidesIn, StandsIn}
+use Rattle.macroblock.specs.inner.Blocks.{SidesIn, StandsIn}
 use Rattle.macroblock.proofs.Held.{rowAt, columnAt, Held, held}
 use Rattle.macroblock.proofs.Locality.{InPart, block-cover, put-at, parts, square-local}
 use Rattle.macroblock.proofs.Places.{At}

@@ -5,9 +5,8 @@ use lib.ListN.{getD}
 use Rattle.laws.specs.Table.{someBelow}
 use Rattle.maps.specs.Neighbours.{Side, marksOf}
 use Rattle.maps.specs.Neighbours.Side.{A, B, C, D}
-use Rattle.macroblock.specs.Cut.{Holder, holderOn, sidesOf}
-use Rattle.macroblock.specs.Cut.Holder.{own, other, nobody}
-use Rattle.macroblock.specs.Kinds.{cutFor}
+use Rattle.cut.specs.Cut.{cutFor, Holder, holderOn, sidesOf}
+use Rattle.cut.specs.Cut.Holder.{own, other, nobody}
 use Rattle.macroblock.specs.declared.Record.{Record}
 use Rattle.reads.specs.Exactly.{Predictor, luma4x4, luma8x8, luma16x16, chroma8x8}
 use Rattle.reads.specs.Groups.{Group, groupsOf}

@@ -12,30 +12,14 @@ use Rattle.basics.specs.Clip.{Clip1}
 use Rattle.basics.specs.Marks.{permittedChroma, modeAnswer}
 use Rattle.basics.specs.Nnz.{blkIdx}
 use Rattle.maps.specs.Neighbours.{Side, marksOf}
-use Rattle.macroblock.specs.Cut.{scanX, scanY, sidesOf, squareSides}
+use Rattle.cut.specs.Cut.{cutFor, used, sidesOf, squareSides}
 use Rattle.maps.specs.Neighbours.Side.{A, B, D}
-use Rattle.macroblock.specs.declared.cut.Place.{Place}
+use Rattle.macroblock.specs.declared.place.Place.{Place}
 use Rattle.basics.specs.declared.marks.Sides.{Sides}
-use Rattle.macroblock.specs.declared.cut.Spot.{Spot}
-use Rattle.macroblock.specs.Kinds.{residual4x4, residual8x8, cutFor}
-use Rattle.macroblock.specs.Rules.{used, lastMode, permittedFor}
+use Rattle.macroblock.specs.declared.place.Spot.{Spot}
+use Rattle.macroblock.specs.Kinds.{residual4x4, residual8x8}
+use Rattle.macroblock.specs.Rules.{lastMode, permittedFor}
 use Rattle.macroblock.specs.Square.{placeAt}
-
--- for m blocks across, places and numbers answer one another
-pub record Scan (m : ℕ) : Type 0 where
-  pub some : 0 < m
-  pub x-lt : (k : ℕ) → k < m * m → scanX k < m
-  pub y-lt : (k : ℕ) → k < m * m → scanY k < m
-  pub of : (k : ℕ) → k < m * m → blkIdx (scanX k) (scanY k) ≡ k
-  pub of-x : (x y : ℕ) → x < m → y < m → scanX (blkIdx x y) ≡ x
-  pub of-y : (x y : ℕ) → x < m → y < m → scanY (blkIdx x y) ≡ y
-  pub of-lt : (x y : ℕ) → x < m → y < m → blkIdx x y < m * m
-
--- block k of m across
-pub record BlockOf (m k : ℕ) : Type 0 where
-  pub scan : Scan m
-  pub few : m ≤ 4
-  pub one : k < m * m
 
 -- a place so near that sixteen times its row and its column are numbers of 64 bits
 pub record Low (p : Place) : Type 0 where

@@ -2,7 +2,7 @@
 use mathlib.Core.Path.{ap, _∙_}
 use lib.Dec.{lit≤}
 use Rattle.laws.specs.Table.{someBelow}
-use Rattle.macroblock.proofs.Scan.{scan-1}
+use Rattle.cut.proofs.Scan.{scan-1}
 use Rattle.reads.specs.Groups.{groupsOf, readsChroma}
 use Rattle.waits.specs.Waits.{holdsOne}
 use borrow.Author.Needs.{needs}

@@ -1,6 +1,6 @@
 -- `waits::groups_for` meets its contract, kind by kind. Assumes nothing.
 use mathlib.Core.Path.{_≡_}
-use Rattle.macroblock.proofs.ByKind.{other-kind}
+use Rattle.cut.proofs.ByKind.{other-kind}
 use Rattle.reads.specs.Groups.{groupsOf}
 use Rattle.waits.specs.Waits.{predictorFor}
 use borrow.Author.Needs.{needs}

@@ -9,9 +9,8 @@ use Rattle.laws.specs.Table.{someBelow}
 use Rattle.laws.proofs.Tests.{some-none, some-next}
 use Rattle.maps.specs.Neighbours.{Side, marksOf}
 use Rattle.maps.specs.declared.neighbours.Marks.{Marks}
-use Rattle.macroblock.specs.Cut.{sidesOf}
-use Rattle.macroblock.specs.Kinds.{cutFor}
-use Rattle.macroblock.proofs.ByKind.{scan-for, across-few, used-is}
+use Rattle.cut.specs.Cut.{cutFor, sidesOf}
+use Rattle.cut.proofs.ByKind.{scan-for, across-few, used-is}
 use Rattle.reads.specs.Groups.{groupsOf}
 use Rattle.waits.specs.Waits.{holdsOne, blockReads, predictorFor}
 use borrow.Author.Needs.{needs}

@@ -6,7 +6,7 @@ use native.Mathlib.Omega.{arith}
 use lib.ListN.{length, getD, take, drop, length-take, length-drop}
 use Rattle.laws.proofs.Stretches.{length-stretch, stretches-are, part-at}
 use Rattle.laws.proofs.Tables.{table-there, table-absent}
-use Rattle.macroblock.specs.declared.cut.Place.{Place}
+use Rattle.macroblock.specs.declared.place.Place.{Place}
 use Rattle.macroblock.specs.Square.{aboveOf}
 use Rattle.macroblock.proofs.Fitting.{in-above, reach-over, reach-right, reach-last}
 use borrow.Author.Needs.{needs}

@@ -3,7 +3,7 @@ use Prim.Native.Nat.{ℕ, _+_, _*_, _-_, _<_}
 use native.Mathlib.Nat.{mul-pos}
 use native.Mathlib.Omega.{arith}
 use lib.ListN.{length}
-use Rattle.macroblock.specs.declared.cut.Place.{Place}
+use Rattle.macroblock.specs.declared.place.Place.{Place}
 use Rattle.macroblock.specs.Square.{cornerOf}
 use Rattle.macroblock.proofs.Fitting.{InAbove, in-above}
 use Rattle.macroblock.proofs.beside.corner_of.Statement.{statement}

@@ -5,7 +5,7 @@ use native.Mathlib.Nat.{mul-pos}
 use native.Mathlib.Omega.{arith}
 use lib.ListN.{length, getD, length-replicate}
 use Rattle.laws.proofs.Tables.{Filled, filled-none, filled-more, filled-all, table-there, table-absent}
-use Rattle.macroblock.specs.declared.cut.Place.{Place}
+use Rattle.macroblock.specs.declared.place.Place.{Place}
 use Rattle.macroblock.specs.Square.{leftOf}
 use Rattle.macroblock.proofs.Fitting.{InRow, in-row}
 use borrow.Author.Needs.{needs}

@@ -5,11 +5,11 @@ use native.Mathlib.Omega.{arith}
 use lib.ListN.{getD, length}
 use Rattle.basics.specs.Marks.{permitted16x16, modeAnswer}
 use Rattle.maps.specs.Neighbours.{marksOf}
-use Rattle.macroblock.specs.Cut.{whole}
+use Rattle.cut.specs.Cut.{whole}
+use Rattle.cut.proofs.Scan.{scan-4}
 use Rattle.macroblock.specs.Kinds.{predFor, residualL}
 use Rattle.macroblock.specs.inner.Blocks.{StandsIn, inPieces, lumaPlace}
 use Rattle.macroblock.proofs.Drawn.{part-drawn, whole-sides, whole-place}
-use Rattle.macroblock.proofs.Scan.{scan-4}
 use Rattle.macroblock.proofs.Sums.{pieces-transformed}
 use borrow.Author.Needs.{needs}
 use Rattle.macroblock.proofs.planes.block_16x16.Statement.{statement}

@@ -7,12 +7,12 @@ use Rattle.laws.specs.Steps.{upTo}
 use Rattle.samples.specs.IntraChroma.{predC}
 use Rattle.basics.specs.Marks.{permittedChroma, modeAnswer}
 use Rattle.maps.specs.Neighbours.{marksOf}
-use Rattle.macroblock.specs.Cut.{whole}
+use Rattle.cut.specs.Cut.{whole}
+use Rattle.cut.proofs.Scan.{scan-2}
 use Rattle.macroblock.specs.Kinds.{residualIn}
 use Rattle.macroblock.specs.Square.{placeAt}
 use Rattle.macroblock.specs.inner.Blocks.{StandsIn, inPieces}
 use Rattle.macroblock.proofs.Drawn.{part-drawn, whole-sides, whole-place}
-use Rattle.macroblock.proofs.Scan.{scan-2}
 use Rattle.macroblock.proofs.Sums.{pieces-transformed}
 use borrow.Author.Needs.{needs}
 use Rattle.macroblock.proofs.planes.chroma_square.Statement.{statement}

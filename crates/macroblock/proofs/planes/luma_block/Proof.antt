@@ -6,11 +6,11 @@ use native.Mathlib.Omega.{arith}
 use lib.IntN.{ℤ}
 use lib.ListN.{length}
 use Rattle.maps.specs.Neighbours.{marksOf}
-use Rattle.macroblock.specs.Kinds.{cutFor, lumaRule}
-use Rattle.macroblock.specs.Rules.{used}
+use Rattle.cut.specs.Cut.{cutFor, used}
+use Rattle.cut.proofs.ByKind.{other-kind}
+use Rattle.macroblock.specs.Kinds.{lumaRule}
 use Rattle.macroblock.specs.Square.{part}
 use Rattle.macroblock.specs.inner.Blocks.{LumaReady, Transformed, firstFor}
-use Rattle.macroblock.proofs.ByKind.{other-kind}
 use borrow.Author.Needs.{needs}
 use Rattle.macroblock.proofs.planes.luma_block.Statement.{statement}
 use Rattle.macroblock.proofs.planes.luma_block.Tie as tie

@@ -8,11 +8,11 @@ use lib.ListN.{length}
 use Rattle.laws.specs.Steps.{upTo}
 use Rattle.laws.proofs.Steps.{steps-none, steps-more}
 use Rattle.maps.specs.Neighbours.{marksOf}
-use Rattle.macroblock.specs.Cut.{blocks}
-use Rattle.macroblock.specs.Kinds.{cutFor, lumaRule}
+use Rattle.cut.specs.Cut.{blocks, cutFor}
+use Rattle.cut.proofs.ByKind.{used-is}
+use Rattle.macroblock.specs.Kinds.{lumaRule}
 use Rattle.macroblock.specs.Square.{part}
 use Rattle.macroblock.specs.inner.Blocks.{LumaReady, Transformed, firstFor}
-use Rattle.macroblock.proofs.ByKind.{used-is}
 use borrow.Author.Needs.{needs}
 use Rattle.macroblock.proofs.planes.luma_square.Statement.{statement}
 use Rattle.macroblock.proofs.planes.luma_square.Tie as tie

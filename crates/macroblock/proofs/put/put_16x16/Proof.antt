@@ -87,7 +87,7 @@ returns c =
 pub put-16x16-spec : {M : Type 1} → statement M
 put-16x16-spec =
     tie.close
-    (tie.spec Inv-loop μ-loop (λ c. none-yet) (λ c κs. omega arith) (λ c κs. omega arith)
+    (tie.spec Inv-loop μ-loop (λ c. none-yet) (λ c κs. search needs) (λ c κs. search needs)
     (λ c. let h = here (c .before) in omega arith) (λ c. let h = here (c .before) in omega arith)
     (λ c. let h = here (c .before .before) in omega (arith, h .block .wide, h .block .short))
     (λ c. let h = here (c .before .before) in omega (arith, h .block .wide, h .block .short))

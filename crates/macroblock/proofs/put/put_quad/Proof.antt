@@ -99,10 +99,10 @@ loop-holds : tie.Need-loop-holds Inv-loop μ-loop
 loop-holds c = none-yet
 
 scan-x-requires : tie.Need-scan-x-requires Inv-loop μ-loop
-scan-x-requires c κs = omega arith
+scan-x-requires c κs = search needs
 
 scan-y-requires : tie.Need-scan-y-requires Inv-loop μ-loop
-scan-y-requires c κs = omega arith
+scan-y-requires c κs = search needs
 
 mul-put-piece : tie.Need-mul-put-piece Inv-loop μ-loop
 mul-put-piece c = let h = here (c .before) in omega arith

@@ -7,8 +7,8 @@ use borrow.Author.Tests.{lt-leb, le-leb}
 use lib.Dec.{leb}
 use lib.ListN.{length, getD, length-take}
 use Rattle.laws.specs.Table.{allBelow}
+use Rattle.cut.proofs.ByKind.{used-few}
 use Rattle.macroblock.specs.Rules.{lastMode, modeKnown, known}
-use Rattle.macroblock.proofs.ByKind.{used-few}
 use Rattle.macroblock.proofs.Known.{none, modes-known, first-modes, other-modes}
 use borrow.Author.Needs.{needs}
 use Rattle.macroblock.proofs.rules.is_known.Statement.{statement}

@@ -1,8 +1,9 @@
 -- `macroblock::rules::last_mode` meets its contract, kind by kind. Assumes nothing.
 use mathlib.Core.Path.{_≡_, refl}
 use native.Mathlib.Omega.{arith}
+use Rattle.cut.proofs.ByKind.{other-kind}
 use Rattle.macroblock.specs.Rules.{lastMode}
-use Rattle.macroblock.proofs.ByKind.{block-kind, other-kind}
+use Rattle.macroblock.proofs.ByKind.{block-kind}
 use Rattle.macroblock.proofs.rules.last_mode.Statement.{statement}
 use Rattle.macroblock.proofs.rules.last_mode.Tie as tie
 

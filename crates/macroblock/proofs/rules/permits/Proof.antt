@@ -1,8 +1,9 @@
 -- `macroblock::rules::permits` meets its contract, kind by kind. Assumes nothing.
 use mathlib.Core.Path.{_≡_}
 use native.Mathlib.Omega.{arith}
+use Rattle.cut.proofs.ByKind.{other-kind}
 use Rattle.macroblock.specs.Rules.{permittedFor}
-use Rattle.macroblock.proofs.ByKind.{block-kind, other-kind}
+use Rattle.macroblock.proofs.ByKind.{block-kind}
 use borrow.Author.Needs.{needs}
 use Rattle.macroblock.proofs.rules.permits.Statement.{statement}
 use Rattle.macroblock.proofs.rules.permits.Tie as tie

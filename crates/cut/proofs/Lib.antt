@@ -1,0 +1,5 @@
+-- The laws about this crate's definitions: the scan and its numbers are `Scan`, what holds of each kind is `ByKind`, and which sides of a block are there is
+-- `Sides`.
+pub mod ByKind
+pub mod Scan
+pub mod Sides
