@@ -48,6 +48,15 @@ pub scan-4 : Scan 4
 unfolding allBelow scanX scanY
 scan-4 = scan 4 (omega arith) tt tt
 
+-- whatever the number, there are four columns, and place and number answer one another
+pub in-four : (k : ℕ) → scanX k < 4
+unfolding scanX
+in-four k = omega arith
+
+pub number-is : (k : ℕ) → blkIdx (scanX k) (scanY k) ≡ k
+unfolding scanX scanY
+number-is k = omega arith
+
 -- the block to the left, the one above and the one above and to the left come first
 pub left-first : (u v k : ℕ) → 0 < u → blkIdx u v ≡ k → blkIdx (u - 1) v < k
 left-first u v k h e = omega arith

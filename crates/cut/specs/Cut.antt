@@ -3,7 +3,7 @@
 use mathlib.Core.Path.{_≡_, refl}
 use mathlib.Core.Bool.{Bool, true, false, cond, _&&_}
 use mathlib.Core.List.{List, [], _∷_}
-use Prim.Native.Nat.{ℕ, zero, suc, _+_, _*_, _-_, _/_, _%_}
+use Prim.Native.Nat.{ℕ, zero, suc, _+_, _*_, _-_, _/_, _%_, min}
 use lib.Dec.{eqb, ltb, leb}
 use Rattle.laws.specs.Table.{table}
 use Rattle.basics.specs.Nnz.{blkIdx}
@@ -109,3 +109,9 @@ noSides = record { above = false; left = false; corner = false; «above_right» 
 
 abbrev pub squareSides : (Side → Bool) → Sides
 squareSides marks = record { above = marks B; left = marks A; corner = marks D; «above_right» = marks C }
+
+-- an answer for every k and m: above, left and corner do not hang on how many blocks are across, and more than four across count as four. Where block k
+-- stands in one of m columns, at most four, these are its sides (shown in proofs/Sides)
+abbrev pub sidesIn : ℕ → (Side → Bool) → ℕ → Sides
+sidesIn m marks k =
+    record { above = isThere 4 marks k B; left = isThere 4 marks k A; corner = isThere 4 marks k D; «above_right» = isThere (min m 4) marks k C }

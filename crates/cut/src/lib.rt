@@ -1,12 +1,11 @@
 // How a macroblock's square is cut into blocks, where these stand (clause 6.4.3) and which of their sides are there (clauses 6.4.11 and 6.4.12).
 ghost use mathlib.Core.Path.{_≡_};
 ghost use mathlib.Core.Bool.{cond, _&&_};
-ghost use Prim.Native.Nat.{_+_, _-_, _≤_, _<_};
+ghost use Prim.Native.Nat.{_+_, _-_, _≤_, _<_, min};
 ghost use lib.Dec.{eqb, ltb, leb};
 ghost use Rattle.basics.specs.Nnz.{blkIdx};
 ghost use Rattle.maps.specs.Neighbours.{marksOf};
-ghost use Rattle.cut.specs.Cut.{cutFor, used, scanX, scanY, sidesOf, noSides, squareSides};
-ghost use Rattle.cut.specs.inner.Blocks.{BlockOf};
+ghost use Rattle.cut.specs.Cut.{cutFor, used, scanX, scanY, sidesOf, noSides, squareSides, sidesIn};
 use basics::marks::Sides;
 use maps::neighbours::Marks;
 
@@ -51,9 +50,9 @@ pub fn scan_y(k: usize) -> usize
     k / 2 % 2 + k / 8 * 2
 }
 
-// The block in column `x` and row `y`.
+// The block in column `x` and row `y`, which is below 2^62 for every number of 64 bits.
 fn blk_idx(x: usize, y: usize) -> usize
-    requires { ⌜ (x < 4) × (y < 4) ⌝ }
+    requires { ⌜ (x < 4) × (y < 4611686018427387904) ⌝ }
     ensures { λ r. ⌜ r ≡ blkIdx x y ⌝ }
 {
     x % 2 + y % 2 * 2 + x / 2 * 4 + y / 2 * 8
@@ -74,23 +73,28 @@ pub fn sides_at(kind: u8, k: usize, marks: Marks) -> Sides
     }
 }
 
-// The sides of block k of m across.
-fn sides_of(k: usize, m: usize, marks: Marks) -> Sides
-    requires { ⌜ BlockOf m k ⌝ }
-    ensures { λ r. ⌜ r ≡ sidesOf m (marksOf marks) k ⌝ }
+// The sides of block k of m across, where the caller knows that there is such a block: no number is tested.
+pub fn sides_of(k: usize, m: usize, marks: Marks) -> Sides
+    ensures { λ r. ⌜ r ≡ sidesIn m (marksOf marks) k ⌝ }
 {
     let u = scan_x(k);
     let v = scan_y(k);
     let above = choose(v == 0, marks.b, true);
     let left = choose(u == 0, marks.a, true);
     let corner = choose(v == 0, choose(u == 0, marks.d, marks.b), left);
-    let above_right = has_above_right(k, u, v, m, marks.b, marks.c);
+    let above_right = has_above_right(k, u, v, at_most_4(m), marks.b, marks.c);
     Sides {
         above,
         left,
         corner,
         above_right,
     }
+}
+
+fn at_most_4(m: usize) -> usize
+    ensures { λ r. ⌜ r ≡ min m 4 ⌝ }
+{
+    if m < 4 { m } else { 4 }
 }
 
 // The sides of a square that is one block.
@@ -107,7 +111,7 @@ pub fn square_sides(marks: Marks) -> Sides
 
 // Whether the samples above and to the right of block k, in column u and row v, are there.
 fn has_above_right(k: usize, u: usize, v: usize, m: usize, b: bool, c: bool) -> bool
-    requires { ⌜ (u < m) × (v < m) × (m ≤ 4) ⌝ }
+    requires { ⌜ (u < 4) × (v < 4611686018427387904) × (m ≤ 4) ⌝ }
     ensures { λ r. ⌜ r ≡ cond (eqb v 0) (cond (leb (u + 2) m) b c) (leb (u + 2) m && ltb (blkIdx (u + 1) (v - 1)) k) ⌝ }
 {
     if v == 0 {

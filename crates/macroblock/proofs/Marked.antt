@@ -2,7 +2,7 @@
 -- nothing.
 use mathlib.Core.Path.{_≡_, refl, sym, _∙_}
 use mathlib.Core.Bool.{Bool, true, false, cond, _&&_}
-use Prim.Native.Nat.{ℕ, zero, suc, _*_, _<_, _≤_}
+use Prim.Native.Nat.{ℕ, zero, suc, _<_, _≤_}
 use native.Mathlib.Omega.{arith}
 use borrow.Author.Tests.{leb-true}
 use lib.Dec.{eqb, leb}
@@ -48,13 +48,12 @@ module _ (marks : Side → Bool) (r : Record) (a : marks A ≡ true) (b : marks 
   at-block : (k : ℕ) → k < used (r .kind) → getD (r .modes) k 0 ≤ lastMode (r .kind) → permittedAt (r .kind) (r .modes) marks k ≡ true
   at-block k h low =
       let m = cutFor (r .kind) .across in
-      let S = scan-for (r .kind) in
-      let hk : k < m * m = omega (arith, used-is (r .kind)) in
+      let l = scan-for (r .kind) .x-lt k (omega (arith, used-is (r .kind))) in
       let u = eqb (scanX k) 0 in let v = eqb (scanY k) 0 in
       by-kind (r .kind) (sidesOf m marks k) (getD (r .modes) k 0)
-      (sym (above-is m k marks S hk) ∙ either v b refl)
-      (sym (left-is m k marks S hk) ∙ either u a refl)
-      (sym (corner-is m k marks S hk) ∙ either v (either u d b) (either u a refl))
+      (sym (above-is m k marks l) ∙ either v b refl)
+      (sym (left-is m k marks l) ∙ either u a refl)
+      (sym (corner-is m k marks l) ∙ either v (either u d b) (either u a refl))
       low
 
   pub all-permitted : known r ≡ true → permitted marks r ≡ true

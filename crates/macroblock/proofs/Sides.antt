@@ -70,17 +70,17 @@ module _ (q m k : ℕ) {n : ℕ} {p : Place} (marks : Side → Bool) (S : Scan m
     block = in-block q m k S some hk (T .block);
     beside = record {
       on-above = λ e.
-          by (eqb W 0) (marks B) true (λ t e. row-pos (N .on-above e)) (λ t e. let z : W ≡ 0 → ⊥ = eqb-false W 0 t in omega arith) (above-is m k marks S hk ∙ e);
-      on-left = λ e. on-left (left-is m k marks S hk ∙ e);
+          by (eqb W 0) (marks B) true (λ t e. row-pos (N .on-above e)) (λ t e. let z : W ≡ 0 → ⊥ = eqb-false W 0 t in omega arith) (above-is m k marks (S .x-lt k hk) ∙ e);
+      on-left = λ e. on-left (left-is m k marks (S .x-lt k hk) ∙ e);
       on-corner = λ e.
           by (eqb W 0) (cond (eqb U 0) (marks D) (marks B)) (cond (eqb U 0) (marks A) true)
           (λ t. by (eqb U 0) (marks D) (marks B) (λ t′ e. (row-pos (N .on-corner e .0), column-pos (N .on-corner e .1)))
           (λ t′ e. let z : U ≡ 0 → ⊥ = eqb-false U 0 t′ in (row-pos (N .on-above e), omega arith)))
-          (λ t e. let z : W ≡ 0 → ⊥ = eqb-false W 0 t in (omega arith, on-left e)) (corner-is m k marks S hk ∙ e);
+          (λ t e. let z : W ≡ 0 → ⊥ = eqb-false W 0 t in (omega arith, on-left e)) (corner-is m k marks (S .x-lt k hk) ∙ e);
       on-above-right = λ e.
           by (eqb W 0) (cond (leb (U + 2) m) (marks B) (marks C)) (leb (U + 2) m && ltb (blkIdx (U + 1) (W - 1)) k)
           (λ t. by (leb (U + 2) m) (marks B) (marks C) (λ t′ e. (row-pos (N .on-above e), next-in t′)) (λ t′ e. (row-pos (N .on-above-right e .0), next-beyond (N .on-above-right e .1))))
-          (λ t e. let z : W ≡ 0 → ⊥ = eqb-false W 0 t in (omega arith, next-in (and-left (leb (U + 2) m) (ltb (blkIdx (U + 1) (W - 1)) k) e))) (right-is m k marks S hk ∙ e);
+          (λ t e. let z : W ≡ 0 → ⊥ = eqb-false W 0 t in (omega arith, next-in (and-left (leb (U + 2) m) (ltb (blkIdx (U + 1) (W - 1)) k) e))) (right-is m k marks ∙ e);
     };
   }
 

@@ -22,7 +22,7 @@ use super::put::put_4x4;
 use super::put::put_8x8;
 use super::put::put_16x16;
 use super::put::put_quad;
-use cut::sides_at;
+use cut::sides_of;
 use cut::square_sides;
 use cut::used_modes;
 
@@ -64,7 +64,7 @@ fn block_4x4(plane: &mut [u8], spot: Spot, modes: &[u8], residuals: &[i16], k: u
         ≡ part four (lumaRule 0 (now (modes .entry)) numbers) (spot .strides .luma) (spot .x) (spot .y) (marksOf (spot .marks)) k (now (plane .entry))) ⌝ }
 {
     let block = place_of(k, 4, spot);
-    let sides = sides_at(0, k, spot.marks);
+    let sides = sides_of(k, 4, spot.marks);
     let mut pred = [0u8; 16];
     predict_4x4(plane, block, sides, modes[k], &mut pred);
     put_4x4(plane, block, &pred, residuals, k);
@@ -78,7 +78,7 @@ fn block_8x8(plane: &mut [u8], spot: Spot, modes: &[u8], residuals: &[i16], code
         ≡ part eight (lumaRule 1 (now (modes .entry)) numbers) (spot .strides .luma) (spot .x) (spot .y) (marksOf (spot .marks)) k (now (plane .entry))) ⌝ }
 {
     let block = place_of(k, 2, spot);
-    let sides = sides_at(1, k, spot.marks);
+    let sides = sides_of(k, 2, spot.marks);
     let mut pred = [0u8; 64];
     predict_8x8(plane, block, sides, modes[k], &mut pred);
     let some = coded[k] != 0;

@@ -15,7 +15,8 @@ ghost use Rattle.macroblock.specs.Rules.{room, rooms, lastMode, permitte
 use super::place::Spot;
 use basics::marks::Sides;
 use basics::tests::both;
-use cut::sides_at;
+use cut::across;
+use cut::sides_of;
 use cut::used_modes;
 use maps::neighbours::Marks;
 
@@ -129,9 +130,10 @@ fn is_permitted(marks: Marks, kind: u8, modes: &[u8], chroma_mode: u8) -> bool
         return true;
     }
     let n = used_modes(kind);
+    let m = across(kind);
     let mut k = 0;
     while k < n {
-        if !permits(kind, sides_at(kind, k, marks), modes[k]) {
+        if !permits(kind, sides_of(k, m, marks), modes[k]) {
             return false;
         }
         k += 1;

@@ -1,15 +1,15 @@
 -- `waits::block_waited` meets its contract: no neighbour holds a group of a block that stands inside, and else those that the sides and the mode tell. Assumes
 -- nothing.
-use mathlib.Core.Path.{sym, ap, ap₂, _∙_}
+use mathlib.Core.Path.{_≡_, sym, ap, ap₂, _∙_}
 use mathlib.Core.Bool.{not}
+use Prim.Native.Nat.{_<_}
 use native.Mathlib.Omega.{arith}
-use borrow.Author.Tests.{not-true}
+use borrow.Author.Tests.{lt-ltb, not-true}
 use lib.Dec.{eqb}
 use Rattle.laws.proofs.Tests.{and-both}
 use Rattle.maps.specs.Neighbours.{marksOf}
-use Rattle.cut.specs.Cut.{cutFor, sidesOf}
+use Rattle.cut.specs.Cut.{cutFor, used, sidesOf}
 use Rattle.cut.proofs.ByKind.{used-is}
-use Rattle.cut.proofs.Sides.{sides-told}
 use Rattle.reads.specs.Groups.{groupsOf}
 use Rattle.waits.specs.Waits.{holdsOne, predictorFor}
 use Rattle.waits.proofs.Holders.{column-is, row-is, inside-none}
@@ -45,7 +45,8 @@ returns-2 c =
     let d = g .before in
     let s = start (d .before) in
     let a = s .args in
-    let sides = d .sides-at .ensures ∙ sides-told (a .kind) (a .k) (marksOf (a .marks)) (omega (arith, s .pre .one, used-is (a .kind))) in
+    let low : a .k < used (a .kind) = omega (arith, s .pre .one, used-is (a .kind)) in
+    let sides : d .sides-at .result ≡ sidesOf (cutFor (a .kind) .across) (marksOf (a .marks)) (a .k) = d .sides-at .ensures ∙ rw (lt-ltb (a .k) (used (a .kind)) low) in
     c .holders-of .ensures
     ∙ ap₂ (λ n r. holdsOne n (a .k) r) (m .across .ensures) (g .groups-for .ensures ∙ ap (λ z. predictorFor (a .kind) .reads (groupsOf z) (a .mode)) sides)
 

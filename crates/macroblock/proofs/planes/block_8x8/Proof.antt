@@ -10,7 +10,7 @@ use Rattle.basics.specs.Marks.{permittedNxN, modeAnswer}
 use Rattle.maps.specs.Neighbours.{marksOf}
 use Rattle.cut.specs.Cut.{eight, sidesOf}
 use Rattle.cut.proofs.Scan.{scan-2}
-use Rattle.cut.proofs.Sides.{sides-told}
+use Rattle.cut.proofs.Sides.{sides-are}
 use Rattle.macroblock.specs.Kinds.{predFor, residualL}
 use Rattle.macroblock.specs.inner.Blocks.{StandsIn, lumaPlace}
 use Rattle.macroblock.proofs.Drawn.{part-drawn}
@@ -20,11 +20,10 @@ use borrow.Author.Needs.{needs}
 use Rattle.macroblock.proofs.planes.block_8x8.Statement.{statement}
 use Rattle.macroblock.proofs.planes.block_8x8.Tie as tie
 
--- there is such a block
-sides : (c : tie.After-sides-at) → let a = c .before .before .before .before .before .args in c .sides-at .result ≡ sidesOf 2 (marksOf (a .spot .marks)) (a .k)
-sides c = let u = c .before .before .before .before .before in c .sides-at .ensures ∙ sides-told 1 (u .args .k) (marksOf (u .args .spot .marks)) (u .pre .0 .1)
+sides : (c : tie.After-sides-of) → let a = c .before .before .before .before .before .args in c .sides-of .result ≡ sidesOf 2 (marksOf (a .spot .marks)) (a .k)
+sides c = let u = c .before .before .before .before .before in c .sides-of .ensures ∙ sides-are 2 (u .args .k) (marksOf (u .args .spot .marks)) (scan-2 .x-lt (u .args .k) (u .pre .0 .1)) (omega arith)
 
-block : (c : tie.After-sides-at) → StandsIn 8 (c .before .place-of .result) (length (c .before .before .before .before .before .args .plane .now)) (c .sides-at .result)
+block : (c : tie.After-sides-of) → StandsIn 8 (c .before .place-of .result) (length (c .before .before .before .before .before .args .plane .now)) (c .sides-of .result)
 block c =
     let u = c .before .before .before .before .before in
     stands-at 8 2 (u .args .k) (marksOf (u .args .spot .marks)) scan-2 (omega arith) (u .pre .0 .1) (u .pre .0 .0 .stands) (c .before .place-of .ensures) (sides c)
