@@ -1,11 +1,11 @@
 -- A byte of the done map, and rule 5: it holds exactly when each neighbour that is waited for is done. Assumes nothing.
 use mathlib.Core.Path.{_≡_, refl, _∙_}
-use mathlib.Core.Bool.{Bool, true, false, _&&_}
+use mathlib.Core.Bool.{Bool, true, false, _&&_, _||_}
 use mathlib.Core.List.{List}
 use Prim.Native.Nat.{ℕ}
 use lib.ListN.{getD}
 use borrow.Author.Tests.{eqb-true, eq-eqb, ne-eqb}
-use Rattle.laws.proofs.Tests.{not-both, and-both, implied, implied-of, implied-no}
+use Rattle.laws.proofs.Tests.{true-T, T-true, same-test, not-both, and-both, and-of, or-either, or-left, or-right, implied, implied-of, implied-no}
 use Rattle.order.specs.Order.{Done}
 use Rattle.maps.specs.Done.{isDone, settled, allSettled}
 use Rattle.maps.specs.Neighbours.{Side, beside}
@@ -64,3 +64,16 @@ module _ (w x y : ℕ) (waited : Side → Bool) (done : List ℕ) where
       go true false g d p q r t f = at-side B q
       go true true false d p q r t f = at-side C r
       go true true true d p q r t f = at-side D (t ∙ f)
+
+-- those that are waited for in one way or another are done exactly where those of the second are and those of the first
+pub settled-either : (w x y : ℕ) (p q : Side → Bool) (done : List ℕ)
+    → allSettled w x y (λ k. p k || q k) done ≡ allSettled w x y q done && allSettled w x y p done
+settled-either w x y p q done =
+    same-test _ _
+    (λ t.
+    let all = settled-is w x y (λ k. p k || q k) done (T-true _ t) in
+    true-T _ (and-of (settled-yes w x y q done (λ k h. all k (or-right (p k) (q k) h))) (settled-yes w x y p done (λ k h. all k (or-left (p k) (q k) h)))))
+    (λ t.
+    let both = and-both (allSettled w x y q done) (allSettled w x y p done) (T-true _ t) in
+    true-T _ (settled-yes w x y (λ k. p k || q k) done
+    (λ k h. or-either (p k) (q k) (settled-is w x y p done (both .1) k) (settled-is w x y q done (both .0) k) h)))

@@ -3,6 +3,7 @@ ghost use mathlib.Core.Path.{_≡_};
 ghost use mathlib.Core.Bool.{true};
 ghost use mathlib.Core.List.{[], _∷_};
 ghost use lib.Dec.{eqb};
+ghost use lib.IntN.{pos};
 ghost use lib.ListN.{length, replicate};
 ghost use Rattle.laws.specs.Answer.{_unless_, answer, written};
 ghost use Rattle.numbers.specs.Numbers.{inRange, allInRange};
@@ -66,9 +67,9 @@ pub fn widen_all(list: &[i16], out: &mut [i32]) -> u32
     0
 }
 
-// A number as a residual, and whether it is one.
+// A number as a residual, or 0 beside the refusal.
 pub fn narrow(v: i32) -> Narrowed
-    ensures { λ r. ⌜ (r .answer ≡ answer (8 unless inRange v ∷ [])) × (r .answer ≡ 0 → r .residual ≡ v) ⌝ }
+    ensures { λ r. ⌜ (r .answer ≡ answer (8 unless inRange v ∷ [])) × (r .residual ≡ written (r .answer) (pos 0) v) ⌝ }
 {
     if in_range(v) {
         Narrowed {

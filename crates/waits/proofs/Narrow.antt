@@ -1,6 +1,7 @@
 -- What a permitted record rebuilds depends on the neighbours only that it waits for, wherever rule 2 of the macroblock call holds. Assumes nothing.
 use mathlib.Core.Path.{_≡_, refl, sym, _∙_}
-use mathlib.Core.Bool.{Bool, true, _&&_, _||_}
+use mathlib.Core.Bool.{Bool, true, false, _&&_, _||_}
+use mathlib.Core.List.{List}
 use Prim.Native.Nat.{ℕ, zero, suc, _*_, _<_}
 use native.Mathlib.Omega.{arith}
 use lib.Dec.{lit≤}
@@ -8,8 +9,10 @@ use lib.ListN.{getD}
 use Rattle.laws.specs.Table.{allBelow}
 use Rattle.laws.proofs.Tests.{and-left, and-right, and-both, and-of, all-at, or-left, or-right, or-either, some-of, some-is}
 use Rattle.basics.specs.Marks.{permittedChroma}
+use Rattle.maps.specs.Done.{allSettled}
 use Rattle.maps.specs.Neighbours.{Side}
 use Rattle.maps.specs.Neighbours.Side.{A, B, D}
+use Rattle.maps.proofs.Waiting.{settled-either}
 use Rattle.cut.specs.Cut.{whole, cutFor, used, scanX, scanY, isThere, sidesOf, squareSides}
 use Rattle.cut.proofs.Scan.{scan-1, scan-2, scan-4}
 use Rattle.macroblock.specs.Kinds.{residualL, residualIn, lumaRule, chromaRule}
@@ -64,6 +67,18 @@ module _ (marks : Side → Bool) (r : Record) where
   pub waits-is : waits marks r ≡ (λ d. inLuma d || inChroma d)
   unfolding waits
   waits-is = refl
+
+  -- where those that chroma waits for are not all done, neither are these; and where they are, those of luma decide
+  module _ (w x y : ℕ) (done : List ℕ) where
+    parts : allSettled w x y (waits marks r) done ≡ allSettled w x y inChroma done && allSettled w x y inLuma done
+    unfolding waits
+    parts = settled-either w x y inLuma inChroma done
+
+    pub chroma-waits : allSettled w x y inChroma done ≡ false → allSettled w x y (waits marks r) done ≡ false
+    chroma-waits e = parts ∙ rw e
+
+    pub luma-decides : allSettled w x y inChroma done ≡ true → allSettled w x y (waits marks r) done ≡ allSettled w x y inLuma done
+    luma-decides e = parts ∙ rw e
 
   -- only marked neighbours are waited for
   pub waits-marked : (d : Side) → waits marks r d ≡ true → marks d ≡ true

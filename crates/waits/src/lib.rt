@@ -31,7 +31,7 @@ use reads::groups::groups_16x16;
 use reads::groups::groups_chroma;
 
 // Whether the neighbours are done that a record with these parts waits for at a macroblock of a picture, where these are available. Where every available
-// one is done, the record's modes are not looked at.
+// one is done, the record's modes are not looked at, and where chroma has to wait those of luma are not.
 pub fn is_ready(
     spot: Spot,
     done: &[u8],
@@ -46,8 +46,12 @@ pub fn is_ready(
     if ready(done, spot.w, spot.x, spot.y, marks) {
         return true;
     }
-    let awaited = waited(marks, kind, modes, chroma_mode);
-    ready(done, spot.w, spot.x, spot.y, awaited)
+    let for_chroma = chroma_waited(marks, chroma_mode);
+    if !ready(done, spot.w, spot.x, spot.y, for_chroma) {
+        return false;
+    }
+    let for_luma = luma_waited(marks, kind, modes);
+    ready(done, spot.w, spot.x, spot.y, for_luma)
 }
 
 // The neighbours that a record with these parts waits for, where these are available: if its modes are permitted it depends on no other. A mode that is

@@ -94,7 +94,10 @@ impl Picture<'_> {
     #[cold]
     fn waits(&self, (x, y): (usize, usize), n: Near, kind: u8, modes: &[u8], chroma_mode: u8) -> bool {
         let whole = marks(0, 0, n);
-        let luma = match kind {
+        if self.holds_undone(reads::reads_chroma(chroma_mode, whole), (x, y), 1) {
+            return true;
+        }
+        match kind {
             0 => LUMA_4X4_SCAN_XY.iter().enumerate().any(|(k, &(bx, by))| {
                 let read = reads::reads_4x4(modes[k], marks(bx, by, n), right_4x4(k, n));
                 self.holds_undone(read, (4 * x + bx, 4 * y + by), 4)
@@ -105,8 +108,7 @@ impl Picture<'_> {
                 self.holds_undone(read, (2 * x + bx, 2 * y + by), 2)
             }),
             _ => self.holds_undone(reads::reads_16x16(modes[0], whole), (x, y), 1),
-        };
-        luma || self.holds_undone(reads::reads_chroma(chroma_mode, whole), (x, y), 1)
+        }
     }
 
     /// Whether one of these groups, which are available, lies in another macroblock that is undone. The block is in column `bx` and row `by` of the

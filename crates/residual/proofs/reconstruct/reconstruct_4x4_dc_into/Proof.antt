@@ -6,7 +6,7 @@ use lib.ListN.{replicate}
 use mir.Facts.{toZ-ofZ}
 use mir.Syntax.{w16}
 use mir.Val.{toZ, ofZ}
-use Rattle.laws.proofs.Answers.{passes}
+use Rattle.laws.proofs.Answers.{put, passes}
 use borrow.Author.Needs.{needs}
 use Rattle.numbers.specs.Numbers.{inRange}
 use Rattle.numbers.proofs.InRange.{in-range-short}
@@ -22,7 +22,7 @@ flat c z =
     let s = c .before .before .before in
     let v = s .args .rval in
     let f = toZ-ofZ (s .fits .rval) in
-    ap (λ r. toZ w16 (ofZ w16 r)) (c .narrow .ensures .1 z ∙ f) ∙ toZ-ofZ (in-range-short v (passes 7 (inRange v) [] (sym (answered c) ∙ z) .0))
+    ap (λ r. toZ w16 (ofZ w16 r)) (c .narrow .ensures .1 ∙ put _ _ z ∙ f) ∙ toZ-ofZ (in-range-short v (passes 7 (inRange v) [] (sym (answered c) ∙ z) .0))
 
 returns : tie.Need-returns
 returns c =
