@@ -7,7 +7,7 @@ use native.Mathlib.Decide.{decLt}
 use lib.ListN.{getD, length, set, length-set}
 use lib.Seq.{getD-set-same, getD-set-other}
 use borrow.Author.Count.{below-more}
-use Rattle.basics.specs.Near.{Near, near}
+use Rattle.basics.specs.Near.{near}
 use Rattle.basics.proofs.Near.{near-above, near-left}
 use Rattle.intra_nxn.specs.inner.Run.{Run}
 

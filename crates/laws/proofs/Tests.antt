@@ -103,10 +103,6 @@ pub implied-no : (a b : Bool) → not a || b ≡ false → (a ≡ true) × (b �
 implied-no true b e = (refl, e)
 implied-no false b e = absurd (not-both refl e)
 
-pub implied-same : (a : Bool) {b c : Bool} → (a ≡ true → b ≡ c) → not a || b ≡ not a || c
-implied-same true f = f refl
-implied-same false f = refl
-
 -- ---- choices
 -- what holds of either alternative holds of the choice
 pub choose : {A : Type 0} (P : A → Type 0) (t : Bool) (a b : A) → (t ≡ true → P a) → (t ≡ false → P b) → P (cond t a b)

@@ -2,7 +2,7 @@
 use mathlib.Core.Path.{_≡_, refl, ap, ap₂, _∙_}
 use mathlib.Core.List.{List}
 use Prim.Native.Nat.{ℕ, _+_, _*_, _/_, _%_, _<_, _≤_}
-use native.Mathlib.Nat.{mul-le-mul-right, add-mul, div-lt-iff-lt-mul}
+use native.Mathlib.Nat.{div-lt-iff-lt-mul}
 use native.Mathlib.Omega.{arith}
 use lib.ListN.{length}
 use Rattle.laws.specs.Steps.{upTo}
@@ -13,7 +13,7 @@ use Rattle.macroblock.specs.declared.place.Place.{Place}
 use Rattle.cut.specs.Cut.{scanX, scanY}
 use Rattle.cut.proofs.Scan.{scan-2}
 use Rattle.macroblock.specs.Square.{inBlock, placeAt, putBlock}
-use Rattle.macroblock.specs.inner.Blocks.{BlockIn, RoomIn}
+use Rattle.macroblock.specs.inner.Blocks.{BlockIn}
 use Rattle.macroblock.proofs.Fitting.{in-row}
 use Rattle.macroblock.proofs.Pieces.{putPiece, wholeOf, pieces-are, put-same}
 use Rattle.macroblock.proofs.Sides.{in-block}
@@ -70,20 +70,3 @@ pub at-quarter : {q n k u v : ℕ} {p : Place} → 0 < q → k < 4 → BlockIn (
 at-quarter {q} {n} {k} {u} {v} {p} some hk F eu ev =
     let w : BlockIn q (placeAt (p .stride) (p .row * 2 + v) (p .column * 2 + u)) n = rw (eu, ev) (in-block q 2 k scan-2 some hk F) in
     record { across = rw eu (scan-2 .x-lt k hk); down = rw ev (scan-2 .y-lt k hk); block = w; line = omega (arith, in-row 0 w some .line) }
-
--- and so does a 4x4 piece's prediction in that of its block, which stands from `o` on with rows `apart` apart
-pub record QuarterRoom (apart n o u v : ℕ) : Type 0 where
-  pub offset : v * 4 * apart ≤ n
-  pub room : RoomIn 4 (o + v * 4 * apart + u * 4) apart n
-
-pub quarter-room : {apart n o u v : ℕ} → RoomIn 8 o apart n → u < 2 → v < 2 → QuarterRoom apart n o u v
-quarter-room {apart} {n} {o} {u} {v} R hu hv =
-    let a : (v * 4 + 3) * apart ≤ 7 * apart = mul-le-mul-right apart (omega arith) in
-    let b = add-mul (v * 4) 3 apart in
-    record { offset = omega (arith, R .inside); room = record { inside = omega (arith, R .inside) } }
-
--- sample (x % 4, y % 4) of piece (x / 4, y / 4) of a block whose rows are `apart` apart is sample (x, y) of the block
-pub quarter-place : (o apart x y : ℕ) → o + y / 4 * 4 * apart + x / 4 * 4 + y % 4 * apart + x % 4 ≡ o + y * apart + x
-quarter-place o apart x y =
-    let e : y * apart ≡ y / 4 * 4 * apart + y % 4 * apart = ap (λ n. n * apart) (let f : y ≡ y / 4 * 4 + y % 4 = omega arith in f) ∙ add-mul (y / 4 * 4) (y % 4) apart in
-    omega arith

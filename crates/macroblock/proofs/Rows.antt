@@ -75,19 +75,20 @@ pub clip-byte : (p : ℕ) → p < 256 → p ≡ Clip1 (pos p +ℤ pos 0)
 unfolding Clip1
 clip-byte p h = rw (le-ltb (p + 0) 0 (omega arith), le-ltb 255 (p + 0) (omega arith)) (omega arith)
 
--- ---- eight samples of a row: four, and four more through the parts from place 4 on
-module _ (pred l l₁ row : List ℕ) (res : List ℤ) (p : 8 ≤ length pred) (r : 8 ≤ length res) (h : 8 ≤ length l) where
+-- ---- eight samples of a row: four, and four more through the parts from place 4 on, whose residuals begin at place g
+module _ (pred l l₁ row : List ℕ) (res : List ℤ) (g : ℕ) (σ : ℕ → ℤ) (p : 8 ≤ length pred) (r : g + 4 ≤ length res) (h : 8 ≤ length l)
+    (first : (i : ℕ) → i < 4 → at res i ≡ σ i) (second : (i : ℕ) → i < 4 → at res (g + i) ≡ σ (4 + i)) where
   abbrev new : ℕ → ℕ
-  new i = Clip1 (pos (getD pred i 0) +ℤ getD res i (pos 0))
+  new i = Clip1 (pos (getD pred i 0) +ℤ σ i)
 
   abbrev later : ℕ → ℕ
-  later i = Clip1 (pos (getD (midOf 4 (length pred - 4) pred) i 0) +ℤ getD (midOf 4 (length res - 4) res) i (pos 0))
+  later i = Clip1 (pos (getD (midOf 4 (length pred - 4) pred) i 0) +ℤ getD (midOf g (length res - g) res) i (pos 0))
 
   same : (i : ℕ) → 4 ≤ i → i < 8 → later (i - 4) ≡ new i
   same i lo hi =
       let e : 4 + (i - 4) ≡ i = omega arith in
       ap₂ (λ p z. Clip1 (pos p +ℤ z)) (part-at 0 pred 4 (length pred - 4) (i - 4) (omega arith) ∙ ap (λ k. getD pred k 0) e)
-      (part-at (pos 0) res 4 (length res - 4) (i - 4) (omega arith) ∙ ap (λ k. getD res k (pos 0)) e)
+      (part-at (pos 0) res g (length res - g) (i - 4) (omega arith) ∙ second (i - 4) (omega arith) ∙ ap σ e)
 
   hit : (i : ℕ) → leb 4 i && ltb (i - 4) 4 ≡ true → (ltb i 8 ≡ true) × (later (i - 4) ≡ new i)
   hit i t =
@@ -104,9 +105,12 @@ module _ (pred l l₁ row : List ℕ) (res : List ℤ) (p : 8 ≤ length pred) (
       go (no a) (yes b) = absurd (not-both (and-of (le-leb 4 i (omega arith)) (lt-ltb (i - 4) 4 (omega arith))) t)
       go (no a) (no b) = le-ltb i 4 (omega arith) ∙ sym (le-ltb i 8 (omega arith))
 
-  pub four-more : l₁ ≡ added 4 pred (at res) l → row ≡ added 4 (midOf 4 (length pred - 4) pred) (at (midOf 4 (length res - 4) res)) (midOf 4 (length l₁ - 4) l₁)
-      → putMid 4 (length l₁ - 4) l₁ row ≡ added 8 pred (at res) l
+  front : l₁ ≡ added 4 pred (at res) l → l₁ ≡ added 4 pred σ l
+  front e = e ∙ patch-same (λ i. ltb i 4) (λ i. ltb i 4) _ new l (λ i. refl) (λ i t. ap (λ z. Clip1 (pos (getD pred i 0) +ℤ z)) (first i (ltb→lt i 4 t)))
+
+  pub four-more : l₁ ≡ added 4 pred (at res) l → row ≡ added 4 (midOf 4 (length pred - 4) pred) (at (midOf g (length res - g) res)) (midOf 4 (length l₁ - 4) l₁)
+      → putMid 4 (length l₁ - 4) l₁ row ≡ added 8 pred σ l
   four-more e f =
-      ap (putMid 4 (length l₁ - 4) l₁) f ∙ put-patch 4 (λ i. ltb i 4) later l₁ (omega (arith, length-front new 4 l l₁ e))
-      ∙ ap (patch (λ i. leb 4 i && ltb (i - 4) 4) (λ i. later (i - 4))) e
+      ap (putMid 4 (length l₁ - 4) l₁) f ∙ put-patch 4 (λ i. ltb i 4) later l₁ (omega (arith, length-front new 4 l l₁ (front e)))
+      ∙ ap (patch (λ i. leb 4 i && ltb (i - 4) 4) (λ i. later (i - 4))) (front e)
       ∙ patch-grow (λ i. ltb i 4) (λ i. leb 4 i && ltb (i - 4) 4) (λ i. ltb i 8) new (λ i. later (i - 4)) l hit miss

@@ -1,7 +1,7 @@
 // Blocks put into a plane: prediction and residual, added and clipped (clause 8.5.14). Where all residuals are 0 the sums are the prediction, copied.
 ghost use mathlib.Core.Path.{_≡_};
 ghost use mathlib.Core.Bool.{false};
-ghost use Prim.Native.Nat.{ℕ, _+_, _*_, _≤_, _<_};
+ghost use Prim.Native.Nat.{ℕ, _+_, _*_, _/_, _%_, _≤_, _<_};
 ghost use lib.IntN.{pos};
 ghost use lib.ListN.{length};
 ghost use Rattle.laws.specs.Range.{at};
@@ -112,57 +112,19 @@ pub(crate) fn put_quad(
     ensures { λ _. ⌜ now (plane .exit) ≡ putBlock 8 place
         (sumOver (now (pred .entry)) «p_off» «p_stride» (inPieces (now (residuals .entry)) base)) (now (plane .entry)) ⌝ }
 {
+    let off = place.row * 8 * place.stride + place.column * 8;
     if !some {
-        let off = place.row * 8 * place.stride + place.column * 8;
         copy_8x8(plane, off, place.stride, pred, p_off, p_stride);
         return;
     }
-    let mut k = 0;
-    while k < 4 {
-        let u = scan_x(k);
-        let v = scan_y(k);
-        let piece = Place {
-            stride: place.stride,
-            row: place.row * 2 + v,
-            column: place.column * 2 + u,
-        };
-        put_piece(
-            plane,
-            piece,
-            pred,
-            p_off + v * 4 * p_stride + u * 4,
-            p_stride,
-            residuals,
-            base + k,
-        );
-        k += 1;
-    }
-}
-
-// A 4x4 block from its prediction, which stands from `p_off` on with stride `p_stride`, and the residuals of block `b`.
-fn put_piece(
-    plane: &mut [u8],
-    place: Place,
-    pred: &[u8],
-    p_off: usize,
-    p_stride: usize,
-    residuals: &[i16],
-    b: usize,
-)
-    requires { ⌜ BlockIn 4 place (length (now plane)) × RoomIn 4 «p_off» «p_stride» (length (now pred)) ⌝ }
-    requires { ⌜ (b < 24) × (length (now residuals) ≡ 384) ⌝ }
-    ensures { λ _. ⌜ now (plane .exit) ≡ putBlock 4 place
-        (sumOver (now (pred .entry)) «p_off» «p_stride» (inPiece (now (residuals .entry)) b)) (now (plane .entry)) ⌝ }
-{
-    let off = place.row * 4 * place.stride + place.column * 4;
-    add_4x4(
+    add_quad(
         plane,
         off,
         place.stride,
         pred,
         p_off,
         p_stride,
-        &residuals[16 * b..16 * b + 16],
+        &residuals[16 * base..16 * base + 64],
     );
 }
 
@@ -203,6 +165,30 @@ fn add_8x8(plane: &mut [u8], off: usize, stride: usize, pred: &[u8], res: &[i16]
     }
 }
 
+// The residuals are those of four 4x4 blocks.
+fn add_quad(
+    plane: &mut [u8],
+    off: usize,
+    stride: usize,
+    pred: &[u8],
+    p_off: usize,
+    p_stride: usize,
+    res: &[i16],
+)
+    requires { ⌜ (8 ≤ stride) × RoomIn 8 off stride (length (now plane)) × RoomIn 8 «p_off» «p_stride» (length (now pred)) × (length (now res) ≡ 64) ⌝ }
+    ensures { λ _. ⌜ now (plane .exit) ≡ putSquare 8 off stride
+        (sumOver (now (pred .entry)) «p_off» «p_stride» (λ x y. at (now (res .entry)) (16 * (y / 4 * 2 + x / 4) + (4 * (y % 4) + x % 4))))
+        (now (plane .entry)) ⌝ }
+{
+    for y in 0..8 {
+        add_pair(
+            &res[y / 4 * 32 + y % 4 * 4..],
+            &pred[p_off + y * p_stride..],
+            &mut plane[off + y * stride..],
+        );
+    }
+}
+
 fn copy_8x8(plane: &mut [u8], off: usize, stride: usize, pred: &[u8], p_off: usize, p_stride: usize)
     requires { ⌜ (8 ≤ stride) × RoomIn 8 off stride (length (now plane)) × RoomIn 8 «p_off» «p_stride» (length (now pred)) ⌝ }
     ensures { λ _. ⌜ now (plane .exit) ≡ putSquare 8 off stride
@@ -237,6 +223,15 @@ fn add_eight(res: &[i16], pred: &[u8], row: &mut [u8])
 {
     add_four(res, pred, row);
     add_four(&res[4..], &pred[4..], &mut row[4..]);
+}
+
+// Four residuals, and the four of the next block.
+fn add_pair(res: &[i16], pred: &[u8], row: &mut [u8])
+    requires { ⌜ (20 ≤ length (now res)) × (8 ≤ length (now pred)) × (8 ≤ length (now row)) ⌝ }
+    ensures { λ _. ⌜ now (row .exit) ≡ added 8 (now (pred .entry)) (λ i. at (now (res .entry)) (i / 4 * 16 + i % 4)) (now (row .entry)) ⌝ }
+{
+    add_four(res, pred, row);
+    add_four(&res[16..], &pred[4..], &mut row[4..]);
 }
 
 fn copy_eight(pred: &[u8], row: &mut [u8])

@@ -63,7 +63,7 @@ module _ (P : Predictor) (modes wide : ℕ) (narrow : wide ≤ 2 * P .side)
           implied (permits P marks m) (permits P (P .reads marks m) m)
           (at-mode modes (λ m marks. not (permits P marks m) || permits P (P .reads marks m) m) (λ m marks. true) kept m low marks) ok
 
-      decides : (s t : Samples) → ((g : Group) → P .reads marks m g ≡ true → SameIn P marks m s t g)
+      decides : (s t : Samples) → ((g : Group) → P .reads marks m g ≡ true → SameIn P s t g)
           → (x y : ℕ) → x < P .side → y < P .side → predicted P marks m s x y ≡ predicted P marks m t x y
       decides s t e x y hx hy =
           alone-at s x y hx hy

@@ -32,6 +32,10 @@ luma16x16 = record { side = 16; permitted = permitted16x16; pred = λ m a l c p 
 abbrev pub chroma8x8 : Predictor
 chroma8x8 = record { side = 8; permitted = permittedChroma; pred = λ m a l c p x y. predC m a l p x y; reads = readsChroma }
 
+-- s and t have the same samples in group g
+abbrev pub SameIn : Predictor → Samples → Samples → Group → Type 0
+SameIn P s t g = (i : ℕ) → i < groupSize (P .side) g → s g i ≡ t g i
+
 module _ (P : Predictor) (marks : Group → Bool) (m : ℕ) where
   abbrev pub permits : Bool
   permits = P .permitted (marks above) (marks left) (marks corner) m
@@ -39,17 +43,13 @@ module _ (P : Predictor) (marks : Group → Bool) (m : ℕ) where
   abbrev pub predicted : Samples → ℕ → ℕ → ℕ
   predicted s = P .pred m (marks above) (marks left) (marks corner) (nearBy (P .side) (marks aboveRight) s)
 
-  -- s and t have the same samples in group g
-  abbrev pub SameIn : Samples → Samples → Group → Type 0
-  SameIn s t g = (i : ℕ) → i < groupSize (P .side) g → s g i ≡ t g i
-
   -- two neighbourhoods of bytes that differ in group k only, and yet predict something else
   pub record Minds (k : Group) : Type 0 where
     pub s : Samples
     pub t : Samples
     pub s-bytes : (g : Group) (i : ℕ) → s g i < 256
     pub t-bytes : (g : Group) (i : ℕ) → t g i < 256
-    pub elsewhere : (g : Group) → g ≢ k → SameIn s t g
+    pub elsewhere : (g : Group) → g ≢ k → SameIn P s t g
     pub x : ℕ
     pub y : ℕ
     pub x-in : x < P .side
@@ -65,5 +65,5 @@ pub record Exactly (P : Predictor) : Type 0 where
   pub there : (marks : Group → Bool) (m : ℕ) (k : Group) → P .reads marks m k ≡ true → marks k ≡ true
   -- and all that is read decides: whatever stands in the other groups, all at once, the prediction is the same
   pub decides : (marks : Group → Bool) (m : ℕ) → permits P marks m ≡ true
-      → (s t : Samples) → ((g : Group) → P .reads marks m g ≡ true → SameIn P marks m s t g)
+      → (s t : Samples) → ((g : Group) → P .reads marks m g ≡ true → SameIn P s t g)
       → (x y : ℕ) → x < P .side → y < P .side → predicted P marks m s x y ≡ predicted P marks m t x y

@@ -50,8 +50,24 @@ pub fn is_ready(
     if !ready(done, spot.w, spot.x, spot.y, for_chroma) {
         return false;
     }
-    let for_luma = luma_waited(marks, kind, modes);
-    ready(done, spot.w, spot.x, spot.y, for_luma)
+    luma_ready(spot, done, marks, kind, modes)
+}
+
+// The same of luma alone, up to the first block that has to wait.
+fn luma_ready(spot: Spot, done: &[u8], marks: Marks, kind: u8, modes: &[u8]) -> bool
+    ensures { λ r. ⌜ r ≡ allSettled (spot .w) (spot .x) (spot .y)
+        (squareReads (predictorFor kind) (cutFor kind .across) (marksOf marks) (λ k. getD (now (modes .entry)) k 0)) (now (done .entry)) ⌝ }
+{
+    let n = used_modes(kind);
+    let mut k = 0;
+    while k < n {
+        let for_block = block_waited(kind, k, mode_at(modes, k), marks);
+        if !ready(done, spot.w, spot.x, spot.y, for_block) {
+            return false;
+        }
+        k += 1;
+    }
+    true
 }
 
 // The neighbours that a record with these parts waits for, where these are available: if its modes are permitted it depends on no other. A mode that is

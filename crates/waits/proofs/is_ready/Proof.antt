@@ -36,14 +36,14 @@ returns-2 c numbers =
 
 returns-3 : tie.Need-returns-3
 returns-3 c numbers =
-    let e = c .before .before in
+    let e = c .before in
     let d = e .before in
     let a = d .before .before .before .before .before .before .args in
     let m = recordOf (a .kind) (a .modes .now) (a .chroma-mode) numbers in
-    c .ready3 .ensures ∙ ap (λ s. allSettled (a .spot .w) (a .spot .x) (a .spot .y) s (a .done .now)) (c .before .luma-waited .ensures)
+    c .luma-ready .ensures
     ∙ sym (luma-decides (marksOf (a .marks)) m (a .spot .w) (a .spot .x) (a .spot .y) (a .done .now) (chroma-is d ∙ not-false _ (e .if2 .left)))
 
 pub is-ready-spec : {M : Type 1} → statement M
 is-ready-spec =
     tie.close
-    (tie.spec (λ c κs. search needs) returns (λ c κs. search needs) (λ c κs. search needs) returns-2 (λ c κs. search needs) (λ c κs. search needs) returns-3)
+    (tie.spec (λ c κs. search needs) returns (λ c κs. search needs) (λ c κs. search needs) returns-2 (λ c κs. search needs) returns-3)
