@@ -35,7 +35,7 @@
 
 #define JIWARBEND_VERSION_MAJOR 0
 #define JIWARBEND_VERSION_MINOR 5
-#define JIWARBEND_VERSION_PATCH 0
+#define JIWARBEND_VERSION_PATCH 1
 
 #include <stdbool.h>
 #include <stddef.h>

@@ -1,5 +1,5 @@
 -- The rows of a block are windows of lines: what stands in the lines is what Places says of the run and its means. Once over the side. Assumes nothing.
-use mathlib.Core.Path.{_≡_, refl, sym, ap, _∙_}
+use mathlib.Core.Path.{_≡_, refl, ap, _∙_}
 use mathlib.Core.Bool.{Bool, true, false, cond}
 use mathlib.Core.List.{List}
 use Prim.Native.Nat.{ℕ, _+_, _-_, _*_, _/_, _%_, _≤_, _<_}
@@ -21,7 +21,7 @@ use Rattle.intra_nxn.specs.IntraNxN.{downLeft, downRight, verticalRight,
 use Rattle.basics.specs.Near.{Near, dc}
 use Rattle.basics.proofs.Fills.{fill-block}
 use Rattle.intra_nxn.specs.inner.Run.{Run, Line, slid, meanRound, meanFrom, meanIn, pairs}
-use Rattle.intra_nxn.proofs.Places.{stood, three-at, two-at, run-at, at-downLeft, at-downRight, at-verticalRight, at-horizontalDown, at-verticalLeft, at-horizontalUp}
+use Rattle.intra_nxn.proofs.Places.{stood, three-at, two-at, at-downLeft, at-downRight, at-verticalRight, at-horizontalDown, at-verticalLeft, at-horizontalUp, past-horizontalUp}
 
 -- ---- lines under way
 pub line-none : (f : ℕ → ℕ) (l : List ℕ) → length l ≡ 32 → Line 0 f l
@@ -99,7 +99,7 @@ module _ (n : ℕ) (p : Near) (e : List ℕ) (low : 2 ≤ n) (high : n ≤ 8) (t
   by-row even a odd b up back v f g =
       choose (λ w. w ≡ v) (eqb (y % 2) 0) _ _ (λ h. f (eqb-true _ _ h)) (λ h. g (omega (arith, eqb-false (y % 2) 0 h)))
 
-  pub is-vertical : (line : List ℕ) → Line 8 (λ j. getD e (64 + j) 0) line → slid line 0 line 0 0 0 x y ≡ p (x + 1) 0
+  pub is-vertical : (line : List ℕ) → Line 8 (λ j. getD e (11 + j) 0) line → slid line 0 line 0 0 0 x y ≡ p (x + 1) 0
   is-vertical line q = by-row line 0 line 0 0 0 _ (λ h. here _ (omega arith)) (λ h. here _ (omega arith))
     where
       here : (j : ℕ) → j ≡ x → getD line j 0 ≡ p (x + 1) 0
@@ -108,7 +108,7 @@ module _ (n : ℕ) (p : Near) (e : List ℕ) (low : 2 ≤ n) (high : n ≤ 8) (t
   -- the diagonals, from the means of three along the run
   module _ (first count : ℕ) (line : List ℕ) (q : Line count (λ j. meanIn true e (first + j)) line) (far : first + count ≤ 26) where
     in-threes : (i k : ℕ) {v : ℕ} → i ≡ 2 * (first + k) → k < count → stood e i ≡ v → getD line k 0 ≡ v
-    in-threes i k w h here = q .is k h ∙ three-at e i (first + k) w (omega arith) ∙ here
+    in-threes i k w h here = q .is k h ∙ three-at e i (first + k) w ∙ here
 
     pub is-downLeft : (a b : ℕ) → first + a ≡ 11 → b ≡ a + 1 → a + 2 * n ≤ count + 1 → slid line a line b 2 0 x y ≡ downLeft n p x y
     is-downLeft a b ha hb room =
@@ -131,8 +131,8 @@ module _ (n : ℕ) (p : Near) (e : List ℕ) (low : 2 ≤ n) (high : n ≤ 8) (t
   is-verticalLeft m even odd hm qe qo =
       let k : ℕ = 0 + 1 * (y / 2) - 0 * (y / 2) + x in
       by-row even 0 odd 0 1 0 _
-      (λ h. qe .is k (omega arith) ∙ two-at e (21 + 2 * x + y) (10 + k) (omega arith) (omega arith) ∙ here)
-      (λ h. qo .is k (omega arith) ∙ three-at e (21 + 2 * x + y) (11 + k) (omega arith) (omega arith) ∙ here)
+      (λ h. qe .is k (omega arith) ∙ two-at e (21 + 2 * x + y) (10 + k) (omega arith) ∙ here)
+      (λ h. qo .is k (omega arith) ∙ three-at e (21 + 2 * x + y) (11 + k) (omega arith) ∙ here)
     where
       here : stood e (21 + 2 * x + y) ≡ verticalLeft p x y
       here = at-verticalLeft n p e low high run x y _ hx hy refl
@@ -144,7 +144,7 @@ module _ (n : ℕ) (p : Near) (e : List ℕ) (low : 2 ≤ n) (high : n ≤ 8) (t
   in-right first rest j hj hf on =
       choose (λ v. v ≡ verticalRight p x y) (ltb j (n / 2 - 1)) _ _
       (λ h. let l : j < n / 2 - 1 = ltb-true _ _ h in
-      three-at e (20 + 4 * x - 2 * y) (first + 2 * j) (omega arith) (omega arith) ∙ stands _ (λ n. absurd (omega arith)) (λ _. refl))
+      three-at e (20 + 4 * x - 2 * y) (first + 2 * j) (omega arith) ∙ stands _ (λ n. absurd (omega arith)) (λ _. refl))
       (λ h. let l : n / 2 - 1 ≤ j = ltb-false _ _ h in on (omega arith) ∙ stands _ (λ _. refl) (λ n. absurd (omega arith)))
     where
       stands : (i : ℕ) → (y ≤ 2 * x + 1 → i ≡ 19 + 2 * x - y) → (2 * x + 1 < y → i ≡ 20 + 4 * x - 2 * y) → stood e i ≡ verticalRight p x y
@@ -157,8 +157,8 @@ module _ (n : ℕ) (p : Near) (e : List ℕ) (low : 2 ≤ n) (high : n ≤ 8) (t
   is-verticalRight a f g even odd ha hf hg qe qo =
       let j : ℕ = a + 0 * (y / 2) - 1 * (y / 2) + x in
       by-row even a odd a 0 1 _
-      (λ h. qe .is j (omega arith) ∙ in-right f (meanFrom e) j (omega arith) (omega arith) (λ l. two-at e (19 + 2 * x - y) (10 - n / 2 + j) (omega arith) (omega arith)))
-      (λ h. qo .is j (omega arith) ∙ in-right g (meanRound e) j (omega arith) (omega arith) (λ l. three-at e (19 + 2 * x - y) (10 - n / 2 + j) (omega arith) (omega arith)))
+      (λ h. qe .is j (omega arith) ∙ in-right f (meanFrom e) j (omega arith) (omega arith) (λ l. two-at e (19 + 2 * x - y) (10 - n / 2 + j) (omega arith)))
+      (λ h. qo .is j (omega arith) ∙ in-right g (meanRound e) j (omega arith) (omega arith) (λ l. three-at e (19 + 2 * x - y) (10 - n / 2 + j) (omega arith)))
 
   -- the means of two and of three in turn, where they stand in turn
   in-pairs : (m : ℕ) (f g h : ℕ → ℕ) (j v : ℕ) → (j < m → j % 2 ≡ 0 → f (j / 2) ≡ v) → (j < m → j % 2 ≡ 1 → g (j / 2) ≡ v) → (m ≤ j → h j ≡ v) → pairs m f g h j ≡ v
@@ -181,40 +181,37 @@ module _ (n : ℕ) (p : Near) (e : List ℕ) (low : 2 ≤ n) (high : n ≤ 8) (t
       in-line j hj =
           q .is j (omega arith)
           ∙ in-pairs (2 * n) _ _ _ j _
-          (λ l s. two-at e (19 + j - 2 * n) (9 - n + j / 2) (omega arith) (omega arith) ∙ stands (19 + j - 2 * n) (λ _. omega arith) (λ n. absurd (omega arith)))
-          (λ l s. three-at e (19 + j - 2 * n) (10 - n + j / 2) (omega arith) (omega arith) ∙ stands (19 + j - 2 * n) (λ _. omega arith) (λ n. absurd (omega arith)))
-          (λ l. three-at e (16 + 2 * x - 4 * y) (10 + j - 2 * n) (omega arith) (omega arith) ∙ stands _ (λ n. absurd (omega arith)) (λ _. refl))
+          (λ l s. two-at e (19 + j - 2 * n) (9 - n + j / 2) (omega arith) ∙ stands (19 + j - 2 * n) (λ _. omega arith) (λ n. absurd (omega arith)))
+          (λ l s. three-at e (19 + j - 2 * n) (10 - n + j / 2) (omega arith) ∙ stands (19 + j - 2 * n) (λ _. omega arith) (λ n. absurd (omega arith)))
+          (λ l. three-at e (16 + 2 * x - 4 * y) (10 + j - 2 * n) (omega arith) ∙ stands _ (λ n. absurd (omega arith)) (λ _. refl))
 
   pub is-horizontalUp : (line : List ℕ)
-      → Line (3 * n - 2) (pairs (2 * n - 2) (λ i. meanFrom e (7 - i)) (λ i. meanRound e (7 - i)) (λ _. getD e (63 - n) 0)) line
+      → Line (3 * n - 2) (pairs (2 * n - 2) (λ i. meanFrom e (7 - i)) (λ i. meanRound e (7 - i)) (λ _. getD e (10 - n) 0)) line
       → slid line 0 line 2 4 0 x y ≡ horizontalUp n p x y
   is-horizontalUp line q = by-row line 0 line 2 4 0 _ (λ h. in-line _ (omega arith)) (λ h. in-line _ (omega arith))
     where
-      stands : (i : ℕ) → (x + 2 * y ≤ 2 * n - 3 → i ≡ 15 - (x + 2 * y)) → (2 * n - 3 < x + 2 * y → i ≡ 63 - n) → stood e i ≡ horizontalUp n p x y
-      stands i = at-horizontalUp n p e low high run x y i hx hy
-
       in-line : (j : ℕ) → j ≡ x + 2 * y → getD line j 0 ≡ horizontalUp n p x y
       in-line j hj =
           q .is j (omega arith)
           ∙ in-pairs (2 * n - 2) _ _ _ j _
-          (λ l s. two-at e (15 - j) (7 - j / 2) (omega arith) (omega arith) ∙ stands (15 - j) (λ _. omega arith) (λ n. absurd (omega arith)))
-          (λ l s. three-at e (15 - j) (7 - j / 2) (omega arith) (omega arith) ∙ stands (15 - j) (λ _. omega arith) (λ n. absurd (omega arith)))
-          (λ l. sym (run-at e (63 - n) (omega arith)) ∙ stands (63 - n) (λ n. absurd (omega arith)) (λ _. refl))
+          (λ l s. two-at e (15 - j) (7 - j / 2) (omega arith) ∙ at-horizontalUp n p e low high run x y (15 - j) hx hy (omega arith) (omega arith))
+          (λ l s. three-at e (15 - j) (7 - j / 2) (omega arith) ∙ at-horizontalUp n p e low high run x y (15 - j) hx hy (omega arith) (omega arith))
+          (λ l. past-horizontalUp n p e low high run x y (omega arith))
 
 -- ---- whole blocks of the modes that take no means
 module _ (n : ℕ) (p : Near) (e : List ℕ) (low : 2 ≤ n) (high : n ≤ 8) (two : n % 2 ≡ 0) (run : Run n p e) (above left : Bool) {mode : ℕ} (old : List ℕ) {out : List ℕ}
     (len : length old ≡ n * n) where
-  pub vertical-rows : mode ≡ 0 → (line : List ℕ) → Line 8 (λ j. getD e (64 + j) 0) line → out ≡ onto (n * n) (λ k. slid line 0 line 0 0 0 (k % n) (k / n)) old
+  pub vertical-rows : mode ≡ 0 → (line : List ℕ) → Line 8 (λ j. getD e (11 + j) 0) line → out ≡ onto (n * n) (λ k. slid line 0 line 0 0 0 (k % n) (k / n)) old
       → out ≡ blockOf n (predNxN n mode above left p)
   unfolding predNxN
   vertical-rows h line q put =
       rows-are n (λ x y. slid line 0 line 0 0 0 x y) (predNxN n mode above left p) old len put
       (λ x y hx hy. rw h (is-vertical n p e low high two run x y hx hy line q))
 
-  pub horizontal-rows : mode ≡ 1 → out ≡ onto (n * n) (λ k. getD e (62 - k / n) 0) old → out ≡ blockOf n (predNxN n mode above left p)
+  pub horizontal-rows : mode ≡ 1 → out ≡ onto (n * n) (λ k. getD e (9 - k / n) 0) old → out ≡ blockOf n (predNxN n mode above left p)
   unfolding predNxN
   horizontal-rows h put =
-      rows-are n (λ x y. getD e (62 - y) 0) (predNxN n mode above left p) old len put
+      rows-are n (λ x y. getD e (9 - y) 0) (predNxN n mode above left p) old len put
       (λ x y hx hy. rw h (ap (λ (k : ℕ). getD e k 0) (omega arith) ∙ run .left (y + 1) (omega arith)))
 
   pub dc-rows : mode ≡ 2 → (v : ℕ) → v ≡ dc n above left p → out ≡ replicate (length (midOf 0 (n * n - 0) old)) v

@@ -82,13 +82,14 @@ pub fn intra4x4_pred_into(
     if answer != 0 {
         return answer;
     }
+    // Lent on by their lengths, so that the compiled code looks up where the lists stand before it writes, and hands that on in registers.
     let e = run_of(4, &top[..8], &left[..4], corner);
     draw4(mode, avail_top, avail_left, &e, out);
     0
 }
 
 // The 4x4 block of a mode, from the run.
-fn draw4(mode: u8, above: bool, left: bool, e: &[u8; 81], out: &mut [u8])
+fn draw4(mode: u8, above: bool, left: bool, e: &[u8; 32], out: &mut [u8])
     requires { ⌜ (mode ≤ 8) × (length (now out) ≡ 16) ⌝ }
     ensures { λ _. ⌜ ((p : Near) → Run 4 p (now (e .entry)) → now (out .exit) ≡ blockOf 4 (predNxN 4 mode above left p)) ⌝ }
 {
@@ -109,7 +110,7 @@ fn draw4(mode: u8, above: bool, left: bool, e: &[u8; 81], out: &mut [u8])
 }
 
 // The modes from 3 on, from the means of the run.
-fn slant4(mode: u8, e: &[u8; 81], out: &mut [u8])
+fn slant4(mode: u8, e: &[u8; 32], out: &mut [u8])
     requires { ⌜ (3 ≤ mode) × (mode ≤ 8) × (length (now out) ≡ 16) ⌝ }
     ensures { λ _. ⌜ ((p : Near) (above left : Bool) → Run 4 p (now (e .entry)) → now (out .exit) ≡ blockOf 4 (predNxN 4 mode above left p)) ⌝ }
 {

@@ -83,6 +83,7 @@ pub fn intra8x8_pred_into(
     if answer != 0 {
         return answer;
     }
+    // Lent on by their lengths, so that the compiled code looks up where the lists stand before it writes, and hands that on in registers.
     let raw = run_of(8, &top[..16], &left[..8], corner);
     let e = filtered_of(&raw, avail_top, avail_left, avail_corner);
     draw8(mode, avail_top, avail_left, &e, out);
@@ -90,7 +91,7 @@ pub fn intra8x8_pred_into(
 }
 
 // The 8x8 block of a mode, from the run.
-fn draw8(mode: u8, above: bool, left: bool, e: &[u8; 81], out: &mut [u8])
+fn draw8(mode: u8, above: bool, left: bool, e: &[u8; 32], out: &mut [u8])
     requires { ⌜ (mode ≤ 8) × (length (now out) ≡ 64) ⌝ }
     ensures { λ _. ⌜ ((p : Near) → Run 8 p (now (e .entry)) → now (out .exit) ≡ blockOf 8 (predNxN 8 mode above left p)) ⌝ }
 {
@@ -111,7 +112,7 @@ fn draw8(mode: u8, above: bool, left: bool, e: &[u8; 81], out: &mut [u8])
 }
 
 // The modes from 3 on, from the means of the run.
-fn slant8(mode: u8, e: &[u8; 81], out: &mut [u8])
+fn slant8(mode: u8, e: &[u8; 32], out: &mut [u8])
     requires { ⌜ (3 ≤ mode) × (mode ≤ 8) × (length (now out) ≡ 64) ⌝ }
     ensures { λ _. ⌜ ((p : Near) (above left : Bool) → Run 8 p (now (e .entry)) → now (out .exit) ≡ blockOf 8 (predNxN 8 mode above left p)) ⌝ }
 {

@@ -10,18 +10,18 @@ use super::run::mean2;
 use super::run::mean3;
 
 // The first eight samples above a block.
-pub(crate) fn above_line(e: &[u8; 81]) -> [u8; 32]
-    ensures { λ r. ⌜ Line 8 (λ j. getD (now (e .entry)) (64 + j) 0) r ⌝ }
+pub(crate) fn above_line(e: &[u8; 32]) -> [u8; 32]
+    ensures { λ r. ⌜ Line 8 (λ j. getD (now (e .entry)) (11 + j) 0) r ⌝ }
 {
     let mut line = [0u8; 32];
     for j in 0..8 {
-        line[j] = e[64 + j];
+        line[j] = e[11 + j];
     }
     line
 }
 
 // The diagonals and Vertical left: along the run, from the given place on, the means of two, or of three, which the diagonals and odd rows take.
-pub(crate) fn along(e: &[u8; 81], first: usize, count: usize, odd: bool) -> [u8; 32]
+pub(crate) fn along(e: &[u8; 32], first: usize, count: usize, odd: bool) -> [u8; 32]
     requires { ⌜ first + count ≤ 26 ⌝ }
     ensures { λ r. ⌜ Line count (λ j. meanIn odd (now (e .entry)) (first + j)) r ⌝ }
 {
@@ -34,7 +34,7 @@ pub(crate) fn along(e: &[u8; 81], first: usize, count: usize, odd: bool) -> [u8;
 
 // Vertical right: every other mean of three along the left side from the given place on, then along the row above the means of two in even rows and of
 // three in odd ones.
-pub(crate) fn right_line(n: usize, e: &[u8; 81], first: usize, odd: bool) -> [u8; 32]
+pub(crate) fn right_line(n: usize, e: &[u8; 32], first: usize, odd: bool) -> [u8; 32]
     requires { ⌜ Even n × (first + n ≤ 12) ⌝ }
     ensures { λ r. ⌜ Line (n / 2 - 1 + n) (λ j. cond (ltb j (n / 2 - 1)) (meanRound (now (e .entry)) (first + 2 * j))
         (meanIn odd (now (e .entry)) (10 - n / 2 + j))) r ⌝ }
@@ -51,7 +51,7 @@ pub(crate) fn right_line(n: usize, e: &[u8; 81], first: usize, odd: bool) -> [u8
 }
 
 // Horizontal down: the means of two and of three in turn up the left side, then those of three along the row above.
-pub(crate) fn down_line(n: usize, e: &[u8; 81]) -> [u8; 32]
+pub(crate) fn down_line(n: usize, e: &[u8; 32]) -> [u8; 32]
     requires { ⌜ Even n ⌝ }
     ensures { λ r. ⌜ Line (3 * n - 2) (pairs (2 * n) (λ i. meanFrom (now (e .entry)) (9 - n + i)) (λ i. meanRound (now (e .entry)) (10 - n + i))
         (λ j. meanRound (now (e .entry)) (10 + j - 2 * n))) r ⌝ }
@@ -68,14 +68,14 @@ pub(crate) fn down_line(n: usize, e: &[u8; 81]) -> [u8; 32]
 }
 
 // Horizontal up: the means of two and of three in turn down the left side, then its last sample.
-pub(crate) fn up_line(n: usize, e: &[u8; 81]) -> [u8; 32]
+pub(crate) fn up_line(n: usize, e: &[u8; 32]) -> [u8; 32]
     requires { ⌜ Even n ⌝ }
     ensures { λ r. ⌜ Line (3 * n - 2) (pairs (2 * n - 2) (λ i. meanFrom (now (e .entry)) (7 - i)) (λ i. meanRound (now (e .entry)) (7 - i))
-        (λ _. getD (now (e .entry)) (63 - n) 0)) r ⌝ }
+        (λ _. getD (now (e .entry)) (10 - n) 0)) r ⌝ }
 {
     let mut line = [0u8; 32];
     for j in 2 * n - 2..3 * n - 2 {
-        line[j] = e[63 - n];
+        line[j] = e[10 - n];
     }
     for i in 0..n - 1 {
         line[2 * i] = mean_from(e, 7 - i);
@@ -84,8 +84,8 @@ pub(crate) fn up_line(n: usize, e: &[u8; 81]) -> [u8; 32]
     line
 }
 
-// The mean that an even or an odd row takes at place 54 + k of the run, the mean of three round it, and that of two from it on.
-fn mean_in(odd: bool, e: &[u8; 81], k: usize) -> u8
+// The mean that an even or an odd row takes at place 1 + k of the run, the mean of three round it, and that of two from it on.
+fn mean_in(odd: bool, e: &[u8; 32], k: usize) -> u8
     requires { ⌜ k < 26 ⌝ }
     ensures { λ r. ⌜ r ≡ meanIn odd (now (e .entry)) k ⌝ }
 {
@@ -96,16 +96,16 @@ fn mean_in(odd: bool, e: &[u8; 81], k: usize) -> u8
     }
 }
 
-fn mean_round(e: &[u8; 81], k: usize) -> u8
+fn mean_round(e: &[u8; 32], k: usize) -> u8
     requires { ⌜ k < 26 ⌝ }
     ensures { λ r. ⌜ r ≡ meanRound (now (e .entry)) k ⌝ }
 {
-    mean3(e[53 + k], e[54 + k], e[55 + k])
+    mean3(e[k], e[1 + k], e[2 + k])
 }
 
-fn mean_from(e: &[u8; 81], k: usize) -> u8
+fn mean_from(e: &[u8; 32], k: usize) -> u8
     requires { ⌜ k < 26 ⌝ }
     ensures { λ r. ⌜ r ≡ meanFrom (now (e .entry)) k ⌝ }
 {
-    mean2(e[54 + k], e[55 + k])
+    mean2(e[1 + k], e[2 + k])
 }

@@ -48,11 +48,11 @@ fn window(n: usize, line: &[u8; 32], at: usize, row: &mut [u8])
 }
 
 // All rows, each its sample to the left.
-pub(crate) fn beside(n: usize, e: &[u8; 81], out: &mut [u8])
+pub(crate) fn beside(n: usize, e: &[u8; 32], out: &mut [u8])
     requires { ⌜ (n ≤ 8) × (n * n ≤ length (now out)) ⌝ }
-    ensures { λ _. ⌜ now (out .exit) ≡ onto (n * n) (λ k. getD (now (e .entry)) (62 - k / n) 0) (now (out .entry)) ⌝ }
+    ensures { λ _. ⌜ now (out .exit) ≡ onto (n * n) (λ k. getD (now (e .entry)) (9 - k / n) 0) (now (out .entry)) ⌝ }
 {
     for y in 0..n {
-        fill(e[62 - y], &mut out[y * n..y * n + n]);
+        fill(e[9 - y], &mut out[y * n..y * n + n]);
     }
 }

@@ -9,32 +9,32 @@ use basics::mean::mean_of;
 use basics::mean::wide;
 
 // The run of a block's neighbours.
-pub(crate) fn run_of(n: usize, top: &[u8], left: &[u8], corner: u8) -> [u8; 81]
+pub(crate) fn run_of(n: usize, top: &[u8], left: &[u8], corner: u8) -> [u8; 32]
     requires { ⌜ (2 ≤ n) × (n ≤ 8) × (length (now top) ≡ 2 * n) × (length (now left) ≡ n) ⌝ }
     ensures { λ r. ⌜ Run n (near (now (top .entry)) (now (left .entry)) corner) r ⌝ }
 {
-    let mut e = [0u8; 81];
+    let mut e = [0u8; 32];
     for k in 0..n {
-        e[62 - k] = left[k];
-        e[64 + k] = top[k];
-        e[64 + n + k] = top[n + k];
+        e[9 - k] = left[k];
+        e[11 + k] = top[k];
+        e[11 + n + k] = top[n + k];
     }
-    e[62 - n] = left[n - 1];
-    e[64 + 2 * n] = top[2 * n - 1];
-    e[63] = corner;
+    e[9 - n] = left[n - 1];
+    e[11 + 2 * n] = top[2 * n - 1];
+    e[10] = corner;
     e
 }
 
 // The one sample of DC.
-pub(crate) fn dc_of(n: usize, e: &[u8; 81], above: bool, left: bool) -> u8
+pub(crate) fn dc_of(n: usize, e: &[u8; 32], above: bool, left: bool) -> u8
     requires { ⌜ (2 ≤ n) × (n ≤ 8) ⌝ }
     ensures { λ r. ⌜ ((p : Near) → Run n p (now (e .entry)) → r ≡ dc n above left p) ⌝ }
 {
     let mut sum_above: u32 = 0;
     let mut sum_left: u32 = 0;
     for i in 0..n {
-        sum_above += wide(e[64 + i]);
-        sum_left += wide(e[62 - i]);
+        sum_above += wide(e[11 + i]);
+        sum_left += wide(e[9 - i]);
     }
     mean_of(n as u32, above, left, sum_above, sum_left)
 }

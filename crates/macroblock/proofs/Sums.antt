@@ -1,6 +1,6 @@
 -- A block that a call puts by its offset is the one that the definition puts by its coordinates, and its residuals are the definition's.
 -- Assumes nothing.
-use mathlib.Core.Path.{_≡_, refl, ap, _∙_}
+use mathlib.Core.Path.{_≡_, refl, sym, ap, _∙_}
 use mathlib.Core.List.{List}
 use Prim.Native.Nat.{ℕ, _+_, _*_, _-_, _/_, _%_, _<_, _≤_}
 use native.Mathlib.Nat.{add-mul}
@@ -17,7 +17,7 @@ use Rattle.macroblock.specs.declared.place.Place.{Place}
 use Rattle.cut.specs.inner.Blocks.{Scan}
 use Rattle.macroblock.specs.Kinds.{residualIn}
 use Rattle.macroblock.specs.Square.{putBlock}
-use Rattle.macroblock.specs.inner.Blocks.{BlockIn, RoomIn, Transformed, sumOver, inPiece, inPieces}
+use Rattle.macroblock.specs.inner.Blocks.{BlockIn, RoomIn, Transformed, sumOver, inPiece, inPieces, quadPlace}
 use Rattle.macroblock.proofs.Pieces.{put-same}
 use Rattle.macroblock.proofs.Places.{put-is-put}
 
@@ -47,6 +47,44 @@ pub piece-put : (po ps b : ℕ) (place : Place) (pred p : List ℕ) (residuals :
 piece-put po ps b place pred p residuals F e =
     put-sums 4 po ps place pred p (λ x y. at (midOf (16 * b) (16 * b + 16 - 16 * b) residuals) (4 * y + x)) (inPiece residuals b) F e
     (λ x y hx hy. block-at 16 b (4 * y + x) residuals (omega arith))
+
+-- ---- an 8x8 square that a call puts from the 64 residuals of its four pieces, and one whose residuals are all 0
+-- the number of a piece, by its column and row
+number : (u v : ℕ) → u < 2 → v < 2 → v * 2 + u ≡ blkIdx u v
+number u v hu hv = omega arith
+
+quad-inside : (x y : ℕ) → x < 8 → y < 8 → quadPlace x y < 64
+unfolding quadPlace
+quad-inside x y hx hy = omega arith
+
+pub quad-row : (r x y : ℕ) → r ≡ y / 4 * 32 + y % 4 * 4 → r + (x / 4 * 16 + x % 4) ≡ quadPlace x y
+unfolding quadPlace
+quad-row r x y e = omega arith
+
+pub pair-inside : (x : ℕ) → x < 8 → x / 4 * 16 + x % 4 < 20
+pair-inside x h = omega arith
+
+quad-at : (residuals : List ℤ) (base x y : ℕ) → x < 8 → y < 8 → at residuals (16 * base + quadPlace x y) ≡ inPieces residuals base x y
+unfolding quadPlace
+quad-at residuals base x y hx hy =
+    let e : 16 * base + quadPlace x y ≡ 16 * (base + (y / 4 * 2 + x / 4)) + (4 * (y % 4) + x % 4) = omega arith in
+    ap (at residuals) e ∙ ap (λ b. at residuals (16 * (base + b) + (4 * (y % 4) + x % 4))) (number (x / 4) (y / 4) (omega arith) (omega arith))
+
+module _ (po ps base : ℕ) (place : Place) (pred p : List ℕ) (residuals : List ℤ) {p′ : List ℕ} (F : BlockIn 8 place (length p)) where
+  pub quad-put : p′ ≡ putSquare 8 (place .row * 8 * place .stride + place .column * 8) (place .stride)
+      (sumOver pred po ps (λ x y. at (midOf (16 * base) (16 * base + 64 - 16 * base) residuals) (quadPlace x y))) p
+      → p′ ≡ putBlock 8 place (sumOver pred po ps (inPieces residuals base)) p
+  quad-put e =
+      put-sums 8 po ps place pred p (λ x y. at (midOf (16 * base) (16 * base + 64 - 16 * base) residuals) (quadPlace x y)) (inPieces residuals base) F e
+      (λ x y hx hy.
+      part-at (pos 0) residuals (16 * base) (16 * base + 64 - 16 * base) (quadPlace x y) (omega (arith, quad-inside x y hx hy)) ∙ quad-at residuals base x y hx hy)
+
+  pub quad-blank : ((i : ℕ) → i < 64 → at residuals (16 * base + i) ≡ pos 0)
+      → p′ ≡ putSquare 8 (place .row * 8 * place .stride + place .column * 8) (place .stride) (sumOver pred po ps (λ _ _. pos 0)) p
+      → p′ ≡ putBlock 8 place (sumOver pred po ps (inPieces residuals base)) p
+  quad-blank zeros e =
+      put-sums 8 po ps place pred p (λ _ _. pos 0) (inPieces residuals base) F e
+      (λ x y hx hy. sym (zeros (quadPlace x y) (quad-inside x y hx hy)) ∙ quad-at residuals base x y hx hy)
 
 -- the residuals of a block whose pieces are all transformed
 pub pieces-transformed : {first : ℕ} {numbers residuals : List ℤ} (m base : ℕ) → Scan m → first ≤ base → base + m * m ≤ 24 → Transformed first numbers residuals

@@ -7,7 +7,7 @@ ghost use lib.ListN.{length};
 ghost use Rattle.laws.specs.Range.{at};
 ghost use Rattle.residual.specs.Reconstruct.{putSquare};
 ghost use Rattle.macroblock.specs.Square.{putBlock};
-ghost use Rattle.macroblock.specs.inner.Blocks.{BlockIn, RoomIn, Coded, inPiece, inPieces, sumOver, added};
+ghost use Rattle.macroblock.specs.inner.Blocks.{BlockIn, RoomIn, Coded, inPiece, inPieces, sumOver, added, quadPlace};
 use super::place::Place;
 use cut::scan_x;
 use cut::scan_y;
@@ -177,16 +177,24 @@ fn add_quad(
 )
     requires { ⌜ (8 ≤ stride) × RoomIn 8 off stride (length (now plane)) × RoomIn 8 «p_off» «p_stride» (length (now pred)) × (length (now res) ≡ 64) ⌝ }
     ensures { λ _. ⌜ now (plane .exit) ≡ putSquare 8 off stride
-        (sumOver (now (pred .entry)) «p_off» «p_stride» (λ x y. at (now (res .entry)) (16 * (y / 4 * 2 + x / 4) + (4 * (y % 4) + x % 4))))
-        (now (plane .entry)) ⌝ }
+        (sumOver (now (pred .entry)) «p_off» «p_stride» (λ x y. at (now (res .entry)) (quadPlace x y))) (now (plane .entry)) ⌝ }
 {
     for y in 0..8 {
+        let at = pair_of(y);
         add_pair(
-            &res[y / 4 * 32 + y % 4 * 4..],
+            &res[at..],
             &pred[p_off + y * p_stride..],
             &mut plane[off + y * stride..],
         );
     }
+}
+
+// Where the residuals of row y of two blocks begin among those of four.
+fn pair_of(y: usize) -> usize
+    requires { ⌜ y < 8 ⌝ }
+    ensures { λ r. ⌜ (r ≡ y / 4 * 32 + y % 4 * 4) × (r + 20 ≤ 64) ⌝ }
+{
+    y / 4 * 32 + y % 4 * 4
 }
 
 fn copy_8x8(plane: &mut [u8], off: usize, stride: usize, pred: &[u8], p_off: usize, p_stride: usize)

@@ -103,6 +103,7 @@ pub fn luma16x16_pred_into(
     if answer != 0 {
         return answer;
     }
+    // Lent on by their lengths, so that the compiled code looks up where the lists stand before it writes, and hands that on in registers.
     predict_16x16(
         mode,
         avail_top,

@@ -87,6 +87,7 @@ pub fn chroma8x8_pred_into(
     if answer != 0 {
         return answer;
     }
+    // Lent on by their lengths, so that the compiled code looks up where the lists stand before it writes, and hands that on in registers.
     predict_chroma(
         mode,
         avail_top,

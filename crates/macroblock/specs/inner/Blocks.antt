@@ -112,3 +112,7 @@ inPiece residuals b x y = at residuals (16 * b + (4 * y + x))
 
 abbrev pub inPieces : List ℤ → ℕ → ℕ → ℕ → ℤ
 inPieces residuals b x y = inPiece residuals (b + blkIdx (x / 4) (y / 4)) (x % 4) (y % 4)
+
+-- where the residual of sample (x, y) of a square stands among those of its four pieces
+unfoldable pub quadPlace : ℕ → ℕ → ℕ
+quadPlace x y = 16 * (y / 4 * 2 + x / 4) + (4 * (y % 4) + x % 4)

@@ -14,11 +14,11 @@ use Rattle.intra_nxn.proofs.filter.means_of.Tie as tie
 
 abbrev Inv-loop : tie.InvT-loop
 Inv-loop e f₀ i₀ f i =
-    (55 ≤ i) × (i ≤ 80) × (length f ≡ 81)
-    × ((m : ℕ) → m < i → 55 ≤ m → getD f m 0 ≡ mean3 (getD e (m - 1) 0) (getD e m 0) (getD e (m + 1) 0))
+    (2 ≤ i) × (i ≤ 27) × (length f ≡ 32)
+    × ((m : ℕ) → m < i → 2 ≤ m → getD f m 0 ≡ mean3 (getD e (m - 1) 0) (getD e m 0) (getD e (m + 1) 0))
 
 abbrev μ-loop : tie.MeasureT-loop
-μ-loop e f₀ i₀ f i = 80 - i
+μ-loop e f₀ i₀ f i = 27 - i
 
 loop-holds : tie.Need-loop-holds Inv-loop μ-loop
 loop-holds c = (omega arith, omega arith, refl, λ m a b. absurd (omega arith))

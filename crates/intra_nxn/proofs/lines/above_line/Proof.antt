@@ -10,7 +10,7 @@ use Rattle.intra_nxn.proofs.lines.above_line.Statement.{statement}
 use Rattle.intra_nxn.proofs.lines.above_line.Tie as tie
 
 abbrev Inv-loop : tie.InvT-loop
-Inv-loop e line₀ j₀ line j = (j ≤ 8) × Line j (λ i. getD e (64 + i) 0) line
+Inv-loop e line₀ j₀ line j = (j ≤ 8) × Line j (λ i. getD e (11 + i) 0) line
 
 abbrev μ-loop : tie.MeasureT-loop
 μ-loop e line₀ j₀ line j = 8 - j

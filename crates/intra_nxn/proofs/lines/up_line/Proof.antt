@@ -14,15 +14,15 @@ use Rattle.intra_nxn.proofs.lines.up_line.Tie as tie
 
 abbrev Inv-loop : tie.InvT-loop
 Inv-loop n e line₀ j₀ end line j =
-    (2 * n - 2 ≤ j) × (j ≤ 3 * n - 2) × (length line ≡ 32) × ((k : ℕ) → k < j → 2 * n - 2 ≤ k → getD line k 0 ≡ getD e (63 - n) 0)
+    (2 * n - 2 ≤ j) × (j ≤ 3 * n - 2) × (length line ≡ 32) × ((k : ℕ) → k < j → 2 * n - 2 ≤ k → getD line k 0 ≡ getD e (10 - n) 0)
 
 abbrev μ-loop : tie.MeasureT-loop
 μ-loop n e line₀ j₀ end line j = 3 * n - 2 - j
 
 abbrev Inv-loop2 : tie.InvT-loop2
 Inv-loop2 n e line₀ i₀ end line i =
-    (i ≤ n - 1) × Line (2 * i) (pairs (2 * n - 2) (λ k. meanFrom e (7 - k)) (λ k. meanRound e (7 - k)) (λ _. getD e (63 - n) 0)) line
-    × ((k : ℕ) → k < 3 * n - 2 → 2 * n - 2 ≤ k → getD line k 0 ≡ getD e (63 - n) 0)
+    (i ≤ n - 1) × Line (2 * i) (pairs (2 * n - 2) (λ k. meanFrom e (7 - k)) (λ k. meanRound e (7 - k)) (λ _. getD e (10 - n) 0)) line
+    × ((k : ℕ) → k < 3 * n - 2 → 2 * n - 2 ≤ k → getD line k 0 ≡ getD e (10 - n) 0)
 
 abbrev μ-loop2 : tie.MeasureT-loop2
 μ-loop2 n e line₀ i₀ end line i = n - 1 - i

@@ -13,7 +13,7 @@ use Rattle.intra_nxn.proofs.rows.beside.Statement.{statement}
 use Rattle.intra_nxn.proofs.rows.beside.Tie as tie
 
 abbrev Inv-loop : tie.InvT-loop
-Inv-loop n e out₀ y₀ out y = (y ≤ n) × (length out ≡ length out₀) × (out ≡ onto (y * n) (λ k. getD e (62 - k / n) 0) out₀)
+Inv-loop n e out₀ y₀ out y = (y ≤ n) × (length out ≡ length out₀) × (out ≡ onto (y * n) (λ k. getD e (9 - k / n) 0) out₀)
 
 abbrev μ-loop : tie.MeasureT-loop
 μ-loop n e out₀ y₀ out y = n - y
@@ -53,7 +53,7 @@ loop-again c =
     let n = b .before .before .args .n in
     let here = inside (i .before) in
     let e = fill-part (y * n) (y * n + n) _ _ _ (b .loop .out) (omega arith) (omega (arith, here)) (b .loop .inv .2) (w .fill .ensures)
-    (λ x l. ap (λ (k : ℕ). getD (b .before .before .args .e .now) (62 - k) 0) (sym (digits-div y (let h : x < n = omega arith in h)))) in
+    (λ x l. ap (λ (k : ℕ). getD (b .before .before .args .e .now) (9 - k) 0) (sym (digits-div y (let h : x < n = omega arith in h)))) in
     (omega arith, onto-long (y * n + n) _ _ _ (omega (arith, here)) e, rw (here .0) e)
 
 returns : tie.Need-returns Inv-loop μ-loop

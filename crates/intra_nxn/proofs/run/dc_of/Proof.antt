@@ -13,7 +13,7 @@ use Rattle.intra_nxn.proofs.run.dc_of.Tie as tie
 
 abbrev Inv-loop : tie.InvT-loop
 Inv-loop n e above left sum-above₀ sum-left₀ i₀ sum-above sum-left i =
-    (i ≤ n) × (sum-above ≡ sumOf i (λ x. getD e (64 + x) 0)) × (sum-left ≡ sumOf i (λ y. getD e (62 - y) 0)) × (sum-above ≤ 255 * i) × (sum-left ≤ 255 * i)
+    (i ≤ n) × (sum-above ≡ sumOf i (λ x. getD e (11 + x) 0)) × (sum-left ≡ sumOf i (λ y. getD e (9 - y) 0)) × (sum-above ≤ 255 * i) × (sum-left ≤ 255 * i)
 
 abbrev μ-loop : tie.MeasureT-loop
 μ-loop n e above left sum-above₀ sum-left₀ i₀ sum-above sum-left i = n - i

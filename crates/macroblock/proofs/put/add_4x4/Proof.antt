@@ -44,19 +44,19 @@ loop-holds : tie.Need-loop-holds Inv-loop μ-loop
 loop-holds c = none-yet
 
 mul-add-four : tie.Need-mul-add-four Inv-loop μ-loop
-mul-add-four c = search needs
+mul-add-four c = omega arith
 
 mul-add-four-2 : tie.Need-mul-add-four-2 Inv-loop μ-loop
-mul-add-four-2 c = search needs
+mul-add-four-2 c = omega arith
 
 sub-add-four : tie.Need-sub-add-four Inv-loop μ-loop
-sub-add-four c = search needs
+sub-add-four c = omega arith
 
 part-add-four-start : tie.Need-part-add-four-start Inv-loop μ-loop
-part-add-four-start c = search needs
+part-add-four-start c = omega arith
 
 part-add-four-end : tie.Need-part-add-four-end Inv-loop μ-loop
-part-add-four-end c = search needs
+part-add-four-end c = omega arith
 
 mul-add-four-3 : tie.Need-mul-add-four-3 Inv-loop μ-loop
 mul-add-four-3 c = let w = here (c .before) in omega arith
@@ -89,7 +89,7 @@ part-add-four-end-3 : tie.Need-part-add-four-end-3 Inv-loop μ-loop
 part-add-four-end-3 c = let w = here (c .before .before) in omega arith
 
 add-y : tie.Need-add-y Inv-loop μ-loop
-add-y c = search needs
+add-y c = omega arith
 
 loop-less : tie.Need-loop-less Inv-loop μ-loop
 loop-less c = search needs

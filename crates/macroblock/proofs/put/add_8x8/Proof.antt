@@ -45,31 +45,31 @@ loop-holds : tie.Need-loop-holds Inv-loop μ-loop
 loop-holds c = none-yet
 
 mul-add-eight : tie.Need-mul-add-eight Inv-loop μ-loop
-mul-add-eight c = search needs
+mul-add-eight c = omega arith
 
 mul-add-eight-2 : tie.Need-mul-add-eight-2 Inv-loop μ-loop
-mul-add-eight-2 c = search needs
+mul-add-eight-2 c = omega arith
 
 sub-add-eight : tie.Need-sub-add-eight Inv-loop μ-loop
-sub-add-eight c = search needs
+sub-add-eight c = omega arith
 
 part-add-eight-start : tie.Need-part-add-eight-start Inv-loop μ-loop
-part-add-eight-start c = search needs
+part-add-eight-start c = omega arith
 
 part-add-eight-end : tie.Need-part-add-eight-end Inv-loop μ-loop
-part-add-eight-end c = search needs
+part-add-eight-end c = omega arith
 
 mul-add-eight-3 : tie.Need-mul-add-eight-3 Inv-loop μ-loop
-mul-add-eight-3 c = search needs
+mul-add-eight-3 c = omega arith
 
 sub-add-eight-2 : tie.Need-sub-add-eight-2 Inv-loop μ-loop
-sub-add-eight-2 c = search needs
+sub-add-eight-2 c = omega arith
 
 part-add-eight-start-2 : tie.Need-part-add-eight-start-2 Inv-loop μ-loop
-part-add-eight-start-2 c = search needs
+part-add-eight-start-2 c = omega arith
 
 part-add-eight-end-2 : tie.Need-part-add-eight-end-2 Inv-loop μ-loop
-part-add-eight-end-2 c = search needs
+part-add-eight-end-2 c = omega arith
 
 mul-add-eight-4 : tie.Need-mul-add-eight-4 Inv-loop μ-loop
 mul-add-eight-4 c = let w = here (c .before .before) in omega arith
@@ -87,7 +87,7 @@ part-add-eight-end-3 : tie.Need-part-add-eight-end-3 Inv-loop μ-loop
 part-add-eight-end-3 c = let w = here (c .before .before) in omega arith
 
 add-y : tie.Need-add-y Inv-loop μ-loop
-add-y c = search needs
+add-y c = omega arith
 
 loop-less : tie.Need-loop-less Inv-loop μ-loop
 loop-less c = search needs

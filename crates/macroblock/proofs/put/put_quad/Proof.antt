@@ -1,17 +1,12 @@
 -- `macroblock::put::put_quad` meets its contract: the square that is put by its first sample is the block at its place, and its residuals are those of its
 -- pieces. Assumes nothing.
-use mathlib.Core.Path.{_≡_, sym, ap, _∙_}
-use Prim.Native.Nat.{_+_, _*_, _-_, _/_, _%_}
+use mathlib.Core.Path.{_≡_, _∙_}
+use Prim.Native.Nat.{_+_, _*_, _-_}
 use native.Mathlib.Omega.{arith}
 use borrow.Author.Tests.{not-true}
-use borrow.Rule.Slice.PartMut.{midOf, mid-len}
-use lib.IntN.{pos}
-use Rattle.laws.specs.Range.{at}
-use Rattle.laws.proofs.Stretches.{part-at}
-use Rattle.basics.specs.Nnz.{blkIdx}
-use Rattle.macroblock.specs.inner.Blocks.{inPieces}
+use borrow.Rule.Slice.PartMut.{mid-len}
 use Rattle.macroblock.proofs.Fitting.{in-row}
-use Rattle.macroblock.proofs.Sums.{room-at, put-sums}
+use Rattle.macroblock.proofs.Sums.{room-at, quad-put, quad-blank}
 use borrow.Author.Needs.{needs}
 use Rattle.macroblock.proofs.put.put_quad.Statement.{statement}
 use Rattle.macroblock.proofs.put.put_quad.Tie as tie
@@ -31,12 +26,8 @@ returns c =
     let t = k .before .before in
     let u = t .before .before .before .before .before .before in
     let a = u .args in
-    let res = a .residuals .now in
-    put-sums 8 (a .p-off) (a .p-stride) (a .place) (a .pred .now) (a .plane .now) (λ _ _. pos 0) (inPieces res (a .base)) (u .pre .0 .0) (k .copy-8x8 .ensures)
-    (λ x y hx hy.
-    let r = 16 * blkIdx (x / 4) (y / 4) + (4 * (y % 4) + x % 4) in
-    let e : 16 * a .base + r ≡ 16 * (a .base + blkIdx (x / 4) (y / 4)) + (4 * (y % 4) + x % 4) = omega arith in
-    sym (u .pre .1 .2 (not-true (a .some) (t .if1 .taken)) r (omega arith)) ∙ ap (at res) e)
+    quad-blank (a .p-off) (a .p-stride) (a .base) (a .place) (a .pred .now) (a .plane .now) (a .residuals .now) (u .pre .0 .0)
+    (u .pre .1 .2 (not-true (a .some) (t .if1 .taken))) (k .copy-8x8 .ensures)
 
 add-quad-requires : tie.Need-add-quad-requires
 add-quad-requires c κs =
@@ -50,15 +41,45 @@ returns-2 c =
     let k = c .before .before in
     let u = k .before .before .before .before .before .before .before .before .before in
     let a = u .args in
-    let res = a .residuals .now in
-    let m = 16 * a .base + 64 - 16 * a .base in
-    put-sums 8 (a .p-off) (a .p-stride) (a .place) (a .pred .now) (a .plane .now)
-    (λ x y. at (midOf (16 * a .base) m res) (16 * (y / 4 * 2 + x / 4) + (4 * (y % 4) + x % 4))) (inPieces res (a .base)) (u .pre .0 .0) (k .add-quad .ensures)
-    (λ x y hx hy. part-at (pos 0) res (16 * a .base) m (16 * (y / 4 * 2 + x / 4) + (4 * (y % 4) + x % 4)) (omega arith) ∙ ap (at res) (omega arith))
+    quad-put (a .p-off) (a .p-stride) (a .base) (a .place) (a .pred .now) (a .plane .now) (a .residuals .now) (u .pre .0 .0) (k .add-quad .ensures)
+
+mul-off-2 : tie.Need-mul-off-2
+mul-off-2 c = omega arith
+
+mul-off-3 : tie.Need-mul-off-3
+mul-off-3 c = omega arith
+
+add-off : tie.Need-add-off
+add-off c = omega arith
+
+same-length : tie.Need-same-length
+same-length c = search needs
+
+mul-add-quad : tie.Need-mul-add-quad
+mul-add-quad c = omega arith
+
+mul-add-quad-2 : tie.Need-mul-add-quad-2
+mul-add-quad-2 c = omega arith
+
+add-add-quad : tie.Need-add-add-quad
+add-add-quad c = omega arith
+
+mul-add-quad-3 : tie.Need-mul-add-quad-3
+mul-add-quad-3 c = omega arith
+
+sub-add-quad : tie.Need-sub-add-quad
+sub-add-quad c = omega arith
+
+part-add-quad-start : tie.Need-part-add-quad-start
+part-add-quad-start c = omega arith
+
+part-add-quad-end : tie.Need-part-add-quad-end
+part-add-quad-end c = omega arith
+
+same-length-2 : tie.Need-same-length-2
+same-length-2 c = search needs
 
 pub put-quad-spec : {M : Type 1} → statement M
 put-quad-spec =
     tie.close
-    (tie.spec mul-off (λ c. search needs) (λ c. search needs) (λ c. search needs) copy-8x8-requires (λ c. search needs) returns (λ c. search needs)
-    (λ c. search needs) (λ c. search needs) (λ c. search needs) (λ c. search needs) (λ c. search needs) (λ c. search needs) add-quad-requires
-    (λ c. search needs) returns-2)
+    (tie.spec mul-off mul-off-2 mul-off-3 add-off copy-8x8-requires same-length returns mul-add-quad mul-add-quad-2 add-add-quad mul-add-quad-3 sub-add-quad part-add-quad-start part-add-quad-end add-quad-requires same-length-2 returns-2)
