@@ -7,6 +7,7 @@ ghost use Rattle.maps.specs.Progress.{begun, progressOf, startAnswer};
 ghost use Rattle.calls.specs.AnyOrder.{AnyOrder};
 ghost use Rattle.calls.specs.Rebuild.{call, lent, Rebuilds};
 ghost use Rattle.calls.specs.Run.{Picture};
+ghost use Rattle.slices.specs.SlicesApart.{SlicesApart};
 use macroblock::Strides;
 use maps::progress::Progress;
 use maps::size::Spot;
@@ -31,7 +32,7 @@ pub extern "C" fn jiwarbend_start(w: u32, h: u32, done: &mut [u8], progress: &mu
     0
 }
 
-// In whatever order the macroblocks come, a finished picture is the right one, and it can always be finished.
+// In whatever order the macroblocks come, a finished picture is the right one, and it can always be finished; a lost slice does not spoil the others.
 #[no_mangle]
 pub extern "C" fn jiwarbend_rebuild(
     w: u32,
@@ -58,6 +59,7 @@ pub extern "C" fn jiwarbend_rebuild(
         (lent (now (luma .entry)) (now (cb .entry)) (now (cr .entry)) (now (done .entry)) (progressOf (now (progress .entry))))
         r (lent (now (luma .exit)) (now (cb .exit)) (now (cr .exit)) (now (done .exit)) (progressOf (now (progress .exit)))) ⌝ }
     ensures { λ _. ⌜ ((g : Picture) → AnyOrder g) ⌝ }
+    ensures { λ _. ⌜ SlicesApart ⌝ }
 {
     let spot = Spot { w, h, x, y };
     let strides = Strides {

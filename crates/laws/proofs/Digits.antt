@@ -1,6 +1,6 @@
 -- Numbers by rows and columns: what a place of a plane is, in rows of s and in blocks of q by q. Assumes nothing.
 use mathlib.Core.Path.{_≡_, ap, _∙_}
-use Prim.Native.Nat.{ℕ, zero, suc, _+_, _*_, _/_, _%_, _<_, _≤_}
+use Prim.Native.Nat.{ℕ, zero, suc, _+_, _*_, _-_, _/_, _%_, _<_, _≤_}
 use native.Mathlib.Nat.{mul-le-mul, mul-le-mul-right, suc-mul}
 use native.Mathlib.Omega.{arith}
 use lib.Arith.{digits-div, digits-mod}
@@ -16,6 +16,10 @@ mul-pos (suc z) m hz hm = omega (arith, suc-mul z m)
 pub le-mul : (x s : ℕ) → 0 < s → x ≤ x * s
 le-mul zero s h = omega arith
 le-mul (suc x) s h = omega (arith, suc-mul x s, le-mul x s h)
+
+pub pred-mul : (y w : ℕ) → 0 < y → y * w ≡ (y - 1) * w + w
+pred-mul zero w h = absurd (omega arith)
+pred-mul (suc y) w h = suc-mul y w ∙ ap (λ m. m * w + w) (omega arith)
 
 -- a row of a square lies in it
 pub row-in : (y n : ℕ) → y < n → y * n + n ≤ n * n

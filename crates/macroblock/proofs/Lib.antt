@@ -5,6 +5,7 @@ pub mod Locality
 pub mod Places
 pub mod Promised
 pub mod Rooms
+pub mod Sides
 mod ByKind
 mod Drawn
 mod Early
@@ -15,6 +16,5 @@ mod Pieces
 mod Predicted
 mod Quarters
 mod Rows
-mod Sides
 mod Sums
 mod Transforms

@@ -1,22 +1,18 @@
 -- Where the neighbours of a macroblock stand: in the picture, at smaller addresses, and how far back. Assumes nothing.
-use mathlib.Core.Path.{_≡_, ap, _∙_}
+use mathlib.Core.Path.{_≡_, ap}
 use mathlib.Core.Bool.{true, _&&_}
 use mathlib.Core.List.{List}
-use Prim.Native.Nat.{ℕ, zero, suc, _+_, _*_, _-_, _<_, _≤_}
-use native.Mathlib.Nat.{suc-mul}
+use Prim.Native.Nat.{ℕ, _+_, _-_, _<_, _≤_}
 use native.Mathlib.Omega.{arith}
 use lib.Dec.{ltb, eqb}
 use lib.ListN.{getD, length}
 use borrow.Author.Tests.{eqb-true, eq-eqb, ltb-true}
+use Rattle.laws.proofs.Digits.{pred-mul}
 use Rattle.laws.proofs.Tests.{and-left, and-both, and-of, and-same}
 use Rattle.maps.specs.Neighbours.{Side, besideX, besideY, beside, inPicture, available, mapped, marksAt}
 use Rattle.maps.specs.Neighbours.Side.{A, B, C, D}
 use Rattle.maps.specs.Size.{total, address, sizeOk, Size, placeOk, Stands}
 use Rattle.maps.proofs.Sizes.{size-is, size-yes, place-is, place-yes}
-
-pred-mul : (y w : ℕ) → 0 < y → y * w ≡ (y - 1) * w + w
-pred-mul zero w h = absurd (omega arith)
-pred-mul (suc y) w h = suc-mul y w ∙ ap (λ m. m * w + w) (omega arith)
 
 -- how far a neighbour's address is back
 abbrev pub backOf : ℕ → Side → ℕ

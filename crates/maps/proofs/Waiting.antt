@@ -1,6 +1,6 @@
 -- A byte of the done map, and rule 5: it holds exactly when each neighbour that is waited for is done. Assumes nothing.
 use mathlib.Core.Path.{_≡_, refl, _∙_}
-use mathlib.Core.Bool.{Bool, true, false, _&&_, _||_}
+use mathlib.Core.Bool.{Bool, true, false, not, _&&_, _||_}
 use mathlib.Core.List.{List}
 use Prim.Native.Nat.{ℕ}
 use lib.ListN.{getD}
@@ -64,6 +64,19 @@ module _ (w x y : ℕ) (waited : Side → Bool) (done : List ℕ) where
       go true false g d p q r t f = at-side B q
       go true true false d p q r t f = at-side C r
       go true true true d p q r t f = at-side D (t ∙ f)
+
+-- of two maps it looks at those only that are waited for
+pub settled-same : (w x y : ℕ) (waited : Side → Bool) (d e : List ℕ) → ((k : Side) → waited k ≡ true → isDone d (beside w x y k) ≡ isDone e (beside w x y k))
+    → allSettled w x y waited d ≡ allSettled w x y waited e
+unfolding allSettled
+settled-same w x y waited d e f = rw (each A, each B, each C, each D)
+  where
+    go : (b : Bool) {u v : Bool} → (b ≡ true → u ≡ v) → not b || u ≡ not b || v
+    go true g = g refl
+    go false g = refl
+
+    each : (k : Side) → settled w x y waited d k ≡ settled w x y waited e k
+    each k = go (waited k) (f k)
 
 -- those that are waited for in one way or another are done exactly where those of the second are and those of the first
 pub settled-either : (w x y : ℕ) (p q : Side → Bool) (done : List ℕ)

@@ -41,3 +41,8 @@ module _ {M I X : Type 0} {at : M → I → X} {ok : M → Type 0} {n : ℕ} {R 
 
   pub ok-steps : (p : M) → ok p → ok (upTo step n p)
   ok-steps p k = subst ok (build-raster step n p) (ok-run L (raster n) p (replicate n 0) k in-turn)
+
+  -- taken again on what all have led to, each writes the same again
+  pub fixed-steps : (p : M) → ok p → (a : ℕ) → a < n → Alike at (R a) (upTo step n p) (step a (upTo step n p))
+  fixed-steps p k a h =
+      subst (λ m. Alike at (R a) m (step a m)) (build-raster step n p) (settled-after (raster n) p k in-turn .fixed a h (raster-done n a h))

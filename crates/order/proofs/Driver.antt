@@ -155,7 +155,7 @@ module _ {S C M : Type 0} {D : Driver S C} {U : View S M} {n : ℕ} {addr : C �
         go [] s k = k
         go (c ∷ cs) s k = go cs (after D c s) (sound-after c s k)
 
-    taken-now : {N : ℕ → ℕ → Type 0} {a : ℕ} {c : C} (s : S) → Sound s → Offers D U n addr N ok a c → ¬ Done (U .done s) a → Ready N (U .done s) a → D .answer c s ≡ 0
+    pub taken-now : {N : ℕ → ℕ → Type 0} {a : ℕ} {c : C} (s : S) → Sound s → Offers D U n addr N ok a c → ¬ Done (U .done s) a → Ready N (U .done s) a → D .answer c s ≡ 0
     taken-now s k o = o .accepted s (k .good) (k .right .long) (omega (arith, k .right .right, k .right .long, ones-le (U .done s)))
 
     module _ {N : ℕ → ℕ → Type 0} (earlier : (a b : ℕ) → a < n → N a b → b < a) where

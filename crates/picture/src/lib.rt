@@ -7,6 +7,7 @@ ghost use Rattle.maps.specs.Progress.{progressOf};
 ghost use Rattle.calls.specs.AnyOrder.{AnyOrder};
 ghost use Rattle.calls.specs.Rebuild.{call, lent, first, Rebuilds};
 ghost use Rattle.calls.specs.Run.{Picture};
+ghost use Rattle.slices.specs.SlicesApart.{SlicesApart};
 use basics::tests::both;
 use macroblock::Strides;
 use maps::done::is_done;
@@ -68,8 +69,8 @@ fn refuse(
     0
 }
 
-// Rebuilds a macroblock of a picture from a record's parts: in any order that it accepts, the picture is the right one. The progress record is its two
-// numbers, stored only where the answer is 0.
+// Rebuilds a macroblock of a picture from a record's parts: in any order that it accepts, the picture is the right one, and a lost slice does not spoil the
+// others. The progress record is its two numbers, stored only where the answer is 0.
 pub fn rebuild(
     spot: Spot,
     luma: &mut [u8],
@@ -88,6 +89,7 @@ pub fn rebuild(
         (lent (now (luma .entry)) (now (cb .entry)) (now (cr .entry)) (now (done .entry)) (progressOf (now (progress .entry))))
         r (lent (now (luma .exit)) (now (cb .exit)) (now (cr .exit)) (now (done .exit)) (progressOf (now (progress .exit)))) ⌝ }
     ensures { λ _. ⌜ ((g : Picture) → AnyOrder g) ⌝ }
+    ensures { λ _. ⌜ SlicesApart ⌝ }
 {
     let before = Progress {
         count: progress[0],

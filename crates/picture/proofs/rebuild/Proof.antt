@@ -1,5 +1,6 @@
 -- `picture::rebuild` meets its contract: the first rules, and then the macroblock call, which finds room and whose other rules are those that are left; an
--- accepted call then marks the map and counts. Demand 3 is `any-order`. Assumes nothing.
+-- accepted call then marks the map and counts. Demand 3 is `any-order`, and that a lost slice does not spoil the others is `slices-apart`.
+-- Assumes nothing.
 use mathlib.Core.Path.{_≡_, refl, sym, ap, _∙_}
 use mathlib.Core.Bool.{Bool}
 use mathlib.Core.List.{List, [], _∷_, _++_}
@@ -23,6 +24,7 @@ use Rattle.calls.proofs.AnyOrder.{any-order}
 use Rattle.calls.proofs.Rebuilt.{refused-first, refused-late, taken, lent-same, lent-rebuilt}
 use Rattle.calls.proofs.Rules.{Passed, passed-is, readyNow, lateRules}
 use Rattle.calls.proofs.Squares.{by-macroblock}
+use Rattle.slices.proofs.SlicesApart.{slices-apart}
 use Rattle.picture.proofs.rebuild.Statement.{statement}
 use Rattle.picture.proofs.rebuild.Tie as tie
 
@@ -110,7 +112,7 @@ new : {r : ℕ} {z : List ℕ} (l : List ℕ) (f : (Side → Bool) → List ℕ)
 new l f {m} h n e = e ∙ put l (f m) n ∙ ap f h
 
 returns : tie.Need-returns
-returns c = let s = begin (c .before) in (refused-first (given s) (held s) (early (c .before)) (c .if1 .taken), any-order)
+returns c = let s = begin (c .before) in (refused-first (given s) (held s) (early (c .before)) (c .if1 .taken), (any-order, slices-apart))
 
 returns-2 : tie.Need-returns-2
 returns-2 c =
@@ -121,7 +123,7 @@ returns-2 c =
     let n = c .if2 .taken in (
       refused-late (given (start e)) (held (start e)) (ok-early e) (answered d) n
           (lent-same (old (a .luma .now) _ n (q .1 .0)) (old (a .cb .now) _ n (q .1 .1 .0)) (old (a .cr .now) _ n (q .1 .1 .1)) refl refl),
-      any-order,
+      (any-order, slices-apart),
     )
 
 mul-here : tie.Need-mul-here
@@ -158,7 +160,7 @@ returns-3 c =
           (new (a .cr .now) (λ m. crSquare (a .spot .x) (a .spot .y) m r (a .strides .cr) (a .cr .now)) m z (q .1 .1 .1))
           refl (c .accepted .ensures)
           ∙ lent-rebuilt (given (start e)) (a .luma .now) (a .cb .now) (a .cr .now) (a .done .now) (progressOf (a .progress .now))),
-      any-order,
+      (any-order, slices-apart),
     )
 
 -- the progress record has both of its numbers

@@ -1,0 +1,238 @@
+-- A square is rebuilt alike elsewhere: block by block, what lies beside a block is an earlier block or touches the square, and is the same at both places.
+-- For every cut and every rule. Assumes nothing.
+use mathlib.Core.Path.{_≡_, refl, sym, ap, ap₂, _∙_}
+use mathlib.Core.Bool.{Bool, true, false, cond, _&&_}
+use mathlib.Core.List.{List}
+use Prim.Native.Nat.{ℕ, zero, suc, _+_, _*_, _-_, _/_, _%_, _<_, _≤_, min}
+use native.Mathlib.Nat.{le-refl, mod-lt, div-add-mod', add-mul, not-suc-le-zero, le-of-suc-le, mul-le-mul-left}
+use native.Mathlib.Decide.{decLt, ℕ-discrete}
+use native.Mathlib.Omega.{arith}
+use borrow.Author.Tests.{eqb-true, eqb-false, leb-true, leb-false, ltb-true}
+use lib.Dec.{T, eqb, ltb, leb}
+use lib.ListN.{getD, length}
+use Rattle.laws.specs.Steps.{upTo}
+use Rattle.laws.proofs.Tables.{table-same}
+use Rattle.basics.specs.Near.{near}
+use Rattle.basics.specs.Nnz.{blkIdx}
+use Rattle.maps.specs.Neighbours.{Side}
+use Rattle.maps.specs.Neighbours.Side.{A, B, C, D}
+use Rattle.cut.specs.Cut.{Cut, four, eight, whole, cutFor, scanX, scanY, holderAt, nextX, nextY, heldBy, isThere, sidesOf, squareSides}
+use Rattle.cut.specs.Cut.Holder.{own, other, nobody}
+use Rattle.cut.specs.inner.Blocks.{Scan}
+use Rattle.cut.proofs.Scan.{scan-1, scan-2, scan-4}
+use Rattle.macroblock.specs.Kinds.{lumaRule, chromaRule}
+use Rattle.macroblock.specs.Square.{placeAt, aboveOf, leftOf, cornerOf, Rule, partPlace, partNear, part, allParts}
+use Rattle.macroblock.specs.declared.Record.{Record}
+use Rattle.macroblock.specs.inner.Blocks.{StandsIn}
+use Rattle.macroblock.proofs.Held.{rowAt, columnAt}
+use Rattle.macroblock.proofs.Rooms.{room-stands}
+use Rattle.moved.specs.Moved.{Site, SameAround, HasRoom, SameLeft, Moved}
+use Rattle.moved.proofs.Framed.{columnIn, rowIn, line, whole-mul, row-line, column-line, first-line, inner-line, block-line, next-line, line-in, line-of, now, touch-kept, place, other-put, own-put}
+
+-- a choice between what two planes hold
+where-there : (b : Bool) (p q z : ℕ) → (T b → p ≡ q) → cond b p z ≡ cond b q z
+where-there true p q z f = f tt
+where-there false p q z f = refl
+
+abbrev Stands : ℕ → (Side → Bool) → Site → Type 0
+Stands q marks u = StandsIn q (placeAt (u .stride) (u .y) (u .x)) (length (u .plane)) (squareSides marks)
+
+-- ---- a macroblock at two places
+module _ (c : Cut) (rule : Rule) (marks : Side → Bool) (S : Scan (c .across)) (some : 0 < c .side) (reach : c .wide ≤ 2 * c .side) (u v : Site)
+    (U : Stands (c .side * c .across) marks u) (V′ : Stands (c .side * c .across) marks v) (same : SameAround (c .side * c .across) marks u v) where
+  abbrev q : ℕ
+  q = c .side
+
+  abbrev m : ℕ
+  m = c .across
+
+  abbrev w : ℕ
+  w = c .side * c .across
+
+  -- the planes after the first k blocks
+  abbrev here : ℕ → List ℕ
+  here k = now c rule marks S some reach u U k
+
+  abbrev there : ℕ → List ℕ
+  there k = now c rule marks S some reach v V′ k
+
+  -- a sample of both, by where its row and its column are from each place
+  abbrev Shows : ℕ → (Site → ℕ) → (Site → ℕ) → Type 0
+  Shows k row column = getD (here k) (row u * u .stride + column u) 0 ≡ getD (there k) (row v * v .stride + column v) 0
+
+  -- the same sample by other words
+  reworded : (k : ℕ) {row row′ column column′ : Site → ℕ} → ((a : Site) → row a ≡ row′ a) → ((a : Site) → column a ≡ column′ a) → Shows k row′ column′ → Shows k row column
+  reworded k e f h =
+      ap₂ (λ r n. getD (here k) (r * u .stride + n) 0) (e u) (f u) ∙ h ∙ sym (ap₂ (λ r n. getD (there k) (r * v .stride + n) 0) (e v) (f v))
+
+  -- the first k blocks are alike
+  abbrev Alike : ℕ → Type 0
+  Alike k = (n r e : ℕ) → n < k → r < q → e < q → Shows k (λ a. (a .y * m + scanY n) * q + r) (λ a. (a .x * m + scanX n) * q + e)
+
+  touches : (k : ℕ) → k ≤ m * m → (d : Side) (t : ℕ) → t < w → T (marks d) → Shows k (λ a. rowAt w (a .y) d t) (λ a. columnAt w (a .x) d t)
+  touches k h d t ht o = touch-kept c rule marks S some reach u U k h d t ht o ∙ same d o t ht ∙ sym (touch-kept c rule marks S some reach v V′ k h d t ht o)
+
+  -- ---- the samples beside block k
+  module _ (k : ℕ) (hk : k < m * m) (alike : Alike k) where
+    -- column e and row r of block column i and block row j, counted from one before the square
+    module _ (i j e r : ℕ) (hi : i ≤ m + 1) (hj : j ≤ m) (he : e < q) (hr : r < q) (last-e : i ≡ 0 → suc e ≡ q) (last-r : j ≡ 0 → suc r ≡ q) where
+      abbrev Known : Type 0
+      Known = Shows k (λ a. line q m (a .y) j r) (λ a. line q m (a .x) i e)
+
+      beyond : (d : Side) (t : ℕ) → t < w → T (marks d) → ((a : Site) → line q m (a .y) j r ≡ rowAt w (a .y) d t) → ((a : Site) → line q m (a .x) i e ≡ columnAt w (a .x) d t) → Known
+      beyond d t ht o row column = reworded k row column (touches k (le-of-suc-le hk) d t ht o)
+
+      before-row : j ≡ 0 → (a : Site) → line q m (a .y) j r ≡ a .y * w - 1
+      before-row z a = ap (λ n. line q m (a .y) n r) z ∙ first-line q m (a .y) r (last-r z)
+
+      before-column : i ≡ 0 → (a : Site) → line q m (a .x) i e ≡ a .x * w - 1
+      before-column z a = ap (λ n. line q m (a .x) n e) z ∙ first-line q m (a .x) e (last-e z)
+
+      earlier : 0 < i → i ≤ m → 0 < j → blkIdx (i - 1) (j - 1) < k → Known
+      earlier pi li pj b =
+          let n = blkIdx (i - 1) (j - 1) in
+          reworded k
+          (λ a. block-line q m (a .y) j r pj ∙ ap (λ z. (a .y * m + z) * q + r) (sym (S .of-y (i - 1) (j - 1) (omega arith) (omega arith))))
+          (λ a. block-line q m (a .x) i e pi ∙ ap (λ z. (a .x * m + z) * q + e) (sym (S .of-x (i - 1) (j - 1) (omega arith) (omega arith))))
+          (alike n r e b hr he)
+
+      held-same : T (heldBy marks (holderAt m k i j)) → Known
+      held-same = go (eqb j 0) (eqb i 0) (leb i m) (ltb (blkIdx (i - 1) (j - 1)) k) refl refl refl refl
+        where
+          pos : 0 < w
+          pos = U .block .some
+
+          go : (b₁ b₂ b₃ b₄ : Bool) → eqb j 0 ≡ b₁ → eqb i 0 ≡ b₂ → leb i m ≡ b₃ → ltb (blkIdx (i - 1) (j - 1)) k ≡ b₄
+              → T (heldBy marks (cond b₁ (cond b₂ (other D) (cond b₃ (other B) (other C))) (cond b₂ (other A) (cond (b₃ && b₄) own nobody)))) → Known
+          go true true b₃ b₄ e₁ e₂ e₃ e₄ o = beyond D 0 pos o (before-row (eqb-true j 0 e₁)) (before-column (eqb-true i 0 e₂))
+          go true false true b₄ e₁ e₂ e₃ e₄ o =
+              let z = eqb-false i 0 e₂ in let l = leb-true i m e₃ in
+              beyond B ((i - 1) * q + e) (line-in q m (i - 1) e (omega arith) he) o (before-row (eqb-true j 0 e₁)) (λ a. inner-line q m (a .x) i e (omega arith))
+          go true false false b₄ e₁ e₂ e₃ e₄ o =
+              let l = leb-false i m e₃ in
+              let z : i ≡ m + 1 = omega arith in
+              beyond C e (omega (arith, line-in q m 0 e (S .some) he)) o (before-row (eqb-true j 0 e₁)) (λ a. ap (λ n. line q m (a .x) n e) z ∙ next-line q m (a .x) e)
+          go false true b₃ b₄ e₁ e₂ e₃ e₄ o =
+              let z = eqb-false j 0 e₁ in
+              beyond A ((j - 1) * q + r) (line-in q m (j - 1) r (omega arith) hr) o (λ a. inner-line q m (a .y) j r (omega arith)) (before-column (eqb-true i 0 e₂))
+          go false false true true e₁ e₂ e₃ e₄ o =
+              let z₁ = eqb-false j 0 e₁ in let z₂ = eqb-false i 0 e₂ in
+              earlier (omega arith) (leb-true i m e₃) (omega arith) (ltb-true (blkIdx (i - 1) (j - 1)) k e₄)
+          go false false true false e₁ e₂ e₃ e₄ o = absurd o
+          go false false false b₄ e₁ e₂ e₃ e₄ o = absurd o
+
+    -- sample t on a side that is there
+    look : (d : Side) (t : ℕ) → t < q → T (isThere m marks k d) → Shows k (λ a. rowAt q (a .y * m + scanY k) d t) (λ a. columnAt q (a .x * m + scanX k) d t)
+    unfolding isThere
+    look d t ht o =
+        reworded k (λ a. row-line q m (a .y) (scanY k) t d some) (λ a. column-line q m (a .x) (scanX k) t d some) (go d o)
+      where
+        x-lt : scanX k < m
+        x-lt = S .x-lt k hk
+
+        y-lt : scanY k < m
+        y-lt = S .y-lt k hk
+
+        go : (d : Side) → T (heldBy marks (holderAt m k (nextX (scanX k) d) (nextY (scanY k) d)))
+            → Shows k (λ a. line q m (a .y) (nextY (scanY k) d) (rowIn q d t)) (λ a. line q m (a .x) (nextX (scanX k) d) (columnIn q d t))
+        go A = held-same (scanX k) (scanY k + 1) (q - 1) t (omega (arith, x-lt)) (omega (arith, y-lt)) (omega arith) ht (λ z. omega arith) (λ z. omega arith)
+        go B = held-same (scanX k + 1) (scanY k) t (q - 1) (omega (arith, x-lt)) (omega (arith, y-lt)) ht (omega arith) (λ z. omega arith) (λ z. omega arith)
+        go C = held-same (scanX k + 2) (scanY k) t (q - 1) (omega (arith, x-lt)) (omega (arith, y-lt)) ht (omega arith) (λ z. omega arith) (λ z. omega arith)
+        go D = held-same (scanX k) (scanY k) (q - 1) (q - 1) (omega (arith, x-lt)) (omega (arith, y-lt)) (omega arith) (omega arith) (λ z. omega arith) (λ z. omega arith)
+
+    -- sample z above the block and above the next one
+    above-look : (z : ℕ) → z < 2 * q → T (isThere m marks k B) → (q ≤ z → T (isThere m marks k C))
+        → Shows k (λ a. (a .y * m + scanY k) * q - 1) (λ a. (a .x * m + scanX k) * q + z)
+    above-look z hz b g = go (decLt z q)
+      where
+        go : Dec (z < q) → Shows k (λ a. (a .y * m + scanY k) * q - 1) (λ a. (a .x * m + scanX k) * q + z)
+        go (yes l) = look B z l b
+        go (no l) =
+            let e : (a : Site) → (a .x * m + scanX k) * q + z ≡ (a .x * m + scanX k + 1) * q + (z - q) = λ a. omega (arith, add-mul (a .x * m + scanX k) 1 q) in
+            reworded k {row = λ a. (a .y * m + scanY k) * q - 1} (λ a. refl) e (look C (z - q) (omega arith) (g (omega arith)))
+
+    -- the last one that is there is repeated
+    last-there : (b : Bool) (t : ℕ) → t < c .wide → (min t (cond b (2 * q - 1) (q - 1)) < 2 * q) × (q ≤ min t (cond b (2 * q - 1) (q - 1)) → T b)
+    last-there true t h = (omega arith, λ _. tt)
+    last-there false t h = (omega arith, λ l. absurd (omega arith))
+
+    abbrev aboveAt : Site → List ℕ → List ℕ
+    aboveAt a plane = aboveOf q (partPlace c rule (a .stride) (a .x) (a .y) marks k) plane (sidesOf m marks k) (c .wide)
+
+    above-same : aboveAt u (here k) ≡ aboveAt v (there k)
+    unfolding aboveOf
+    above-same =
+        table-same (c .wide) _ _ (λ t h.
+        let l = last-there (isThere m marks k C) t h in
+        where-there (isThere m marks k B) _ _ 0 (λ b. above-look (min t (cond (isThere m marks k C) (2 * q - 1) (q - 1))) (l .0) b (l .1)))
+
+    abbrev leftAt : Site → List ℕ → List ℕ
+    leftAt a plane = leftOf q (partPlace c rule (a .stride) (a .x) (a .y) marks k) plane (sidesOf m marks k)
+
+    left-same : leftAt u (here k) ≡ leftAt v (there k)
+    unfolding leftOf
+    left-same = table-same q _ _ (λ t h. where-there (isThere m marks k A) _ _ 0 (look A t h))
+
+    abbrev cornerAt : Site → List ℕ → ℕ
+    cornerAt a plane = cornerOf q (partPlace c rule (a .stride) (a .x) (a .y) marks k) plane (sidesOf m marks k)
+
+    corner-same : cornerAt u (here k) ≡ cornerAt v (there k)
+    unfolding cornerOf
+    corner-same = where-there (isThere m marks k D) _ _ 0 (look D 0 some)
+
+    near-same : partNear c rule (u .stride) (u .x) (u .y) marks k (here k) ≡ partNear c rule (v .stride) (v .x) (v .y) marks k (there k)
+    near-same = λ i. near (above-same i) (left-same i) (corner-same i)
+
+  -- ---- all blocks, one after the other
+  alike-all : (k : ℕ) → k ≤ m * m → Alike k
+  unfolding upTo
+  alike-all zero h n r e hn hr he = absurd (not-suc-le-zero hn)
+  alike-all (suc k) h n r e hn hr he = go (alike-all k (le-of-suc-le h)) (ℕ-discrete n k)
+    where
+      ln : n < m * m
+      ln = omega arith
+
+      go : Alike k → Dec (n ≡ k) → Shows (suc k) (λ a. (a .y * m + scanY n) * q + r) (λ a. (a .x * m + scanX n) * q + e)
+      go ih (yes d) =
+          ap (λ z. getD (here (suc k)) (place c rule marks S some reach u U z r e) 0) d
+          ∙ own-put c rule marks S some reach u U k r e h hr he
+          ∙ ap (λ z. rule k (sidesOf m marks k) z e r) (near-same k h ih)
+          ∙ sym (own-put c rule marks S some reach v V′ k r e h hr he)
+          ∙ sym (ap (λ z. getD (there (suc k)) (place c rule marks S some reach v V′ z r e) 0) d)
+      go ih (no d) =
+          other-put c rule marks S some reach u U n r e ln hr he k h d ∙ ih n r e (omega arith) hr he
+          ∙ sym (other-put c rule marks S some reach v V′ n r e ln hr he k h d)
+
+  -- line i of square z is one of block line n, where that one is number i / q
+  in-block-line : (z i n : ℕ) → n ≡ i / q → z * w + i ≡ (z * m + n) * q + i % q
+  in-block-line z i n e = omega (arith, whole-mul q m z, div-add-mod' i q, add-mul (z * m) n q, ap (λ k. k * q) e)
+
+  pub square-moved : SameLeft (c .side * c .across) (λ x y s. allParts c rule s x y marks) u v
+  square-moved i j hi hj =
+      let hx : i / q < m = line-of q m i some hi in
+      let hy : j / q < m = line-of q m j some hj in
+      let n = blkIdx (i / q) (j / q) in
+      reworded (m * m)
+      (λ a. in-block-line (a .y) j (scanY n) (S .of-y (i / q) (j / q) hx hy)) (λ a. in-block-line (a .x) i (scanX n) (S .of-x (i / q) (j / q) hx hy))
+      (alike-all (m * m) (le-refl (m * m)) n (j % q) (i % q) (S .of-lt (i / q) (j / q) hx hy) (mod-lt j some) (mod-lt i some))
+
+-- ---- the three planes
+module _ (rule : Rule) (marks : Side → Bool) (u v : Site) where
+  luma-moved : (kind : ℕ) → Stands 16 marks u → Stands 16 marks v → SameAround 16 marks u v → SameLeft 16 (λ x y s. allParts (cutFor kind) rule s x y marks) u v
+  luma-moved zero = square-moved four rule marks scan-4 (omega arith) (omega arith) u v
+  luma-moved (suc zero) = square-moved eight rule marks scan-2 (omega arith) (omega arith) u v
+  luma-moved (suc (suc _)) = square-moved (whole 16) rule marks scan-1 (omega arith) (omega arith) u v
+
+  chroma-moved : Stands 8 marks u → Stands 8 marks v → SameAround 8 marks u v → SameLeft 8 (λ x y s. allParts (whole 8) rule s x y marks) u v
+  chroma-moved = square-moved (whole 8) rule marks scan-1 (omega arith) (omega arith) u v
+
+stands : (q : ℕ) (marks : Side → Bool) (u : Site) → 0 < q → HasRoom q marks u → Stands q marks u
+stands q marks u some e = room-stands q (length (u .plane)) (u .stride) (u .x) (u .y) marks some e
+
+pub moved : (marks : Side → Bool) (r : Record) → Moved marks r
+moved marks r = record {
+  luma = λ u v a b.
+      luma-moved (lumaRule (r .kind) (r .modes) (r .numbers)) marks u v (r .kind) (stands 16 marks u (omega arith) a) (stands 16 marks v (omega arith) b);
+  cb = λ u v a b. chroma-moved (chromaRule (r .«chroma_mode») (r .numbers) 16) marks u v (stands 8 marks u (omega arith) a) (stands 8 marks v (omega arith) b);
+  cr = λ u v a b. chroma-moved (chromaRule (r .«chroma_mode») (r .numbers) 20) marks u v (stands 8 marks u (omega arith) a) (stands 8 marks v (omega arith) b);
+}

@@ -1,0 +1,2 @@
+-- A macroblock is rebuilt alike wherever it stands.
+pub mod Moved

@@ -1,0 +1,7 @@
+-- The laws about this crate's definitions: all that is said of slices is `slices-apart`.
+mod Answers
+mod Carried
+mod Decoded
+mod Left
+mod LostSlice
+pub mod SlicesApart
