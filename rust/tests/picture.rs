@@ -1,16 +1,9 @@
 //! Pictures as a service uses them: every refusal, any order, several threads.
+mod memory;
+
 use jiwarbend::{ChromaMode, Kind, Lent, LentPlane, Luma16x16Mode, LumaMode, Picture, Progress, Record, Refusal};
+use memory::{Memory, Numbers};
 use std::sync::{Condvar, Mutex};
-
-/// A small generator of numbers, so that a failing run can be repeated.
-struct Numbers(u64);
-
-impl Numbers {
-    fn below(&mut self, n: u32) -> u32 {
-        self.0 = self.0.wrapping_mul(6364136223846793005).wrapping_add(1442695040888963407);
-        ((self.0 >> 33) as u32) % n
-    }
-}
 
 /// An acceptable record for any place: DC prediction, and some coefficients.
 fn record(numbers: &mut Numbers) -> Record {
@@ -106,42 +99,10 @@ fn threads_hand_macroblocks_in() {
     assert!(same_planes(&picture, &wanted));
 }
 
-/// Memory of a picture of 2 by 2 macroblocks with padding, which a test may bend out of shape.
-struct Memory {
-    w: u32,
-    h: u32,
-    planes: [Vec<u8>; 3],
-    strides: [usize; 3],
-    done: Vec<u8>,
-    slices: Vec<u16>,
-    progress: Progress,
-}
-
 impl Memory {
+    /// A picture of 2 by 2 macroblocks with padding.
     fn new() -> Memory {
-        Memory {
-            w: 2,
-            h: 2,
-            planes: [vec![7; 40 * 32], vec![7; 20 * 16], vec![7; 20 * 16]],
-            strides: [40, 20, 20],
-            done: vec![0; 4],
-            slices: vec![0; 4],
-            progress: Progress::new(),
-        }
-    }
-
-    fn lend(&mut self) -> Lent<'_> {
-        let [luma, cb, cr] = &mut self.planes;
-        let planes = [LentPlane::new(luma, self.strides[0]), LentPlane::new(cb, self.strides[1]), LentPlane::new(cr, self.strides[2])];
-        Lent::new((self.w, self.h), planes, &mut self.done, &self.slices, &mut self.progress)
-    }
-
-    /// Offers a macroblock that is refused, and sees that nothing has changed.
-    fn refused(&mut self, x: u32, y: u32, record: &Record) -> Refusal {
-        let before = (self.planes.clone(), self.done.clone(), self.progress);
-        let refusal = self.lend().rebuild(x, y, record).unwrap_err();
-        assert_eq!((self.planes.clone(), self.done.clone(), self.progress), before);
-        refusal
+        Memory::of((2, 2), [40, 20, 20], vec![0; 4], 7)
     }
 }
 
