@@ -35,7 +35,7 @@
 
 #define JIWARBEND_VERSION_MAJOR 0
 #define JIWARBEND_VERSION_MINOR 5
-#define JIWARBEND_VERSION_PATCH 1
+#define JIWARBEND_VERSION_PATCH 2
 
 #include <stdbool.h>
 #include <stddef.h>
@@ -100,6 +100,8 @@ uint32_t jiwarbend_start(uint32_t w, uint32_t h, uint8_t *done, size_t done_len,
 /* Rebuilds the macroblock in column x and row y. Accepted, its samples stand in the three planes, its byte of the done map is 1, and the
    progress has its address and counts one more. When all have been accepted, each with its own record and in any order, the planes hold
    what decoding in raster order by ITU-T H.264 gives; bytes between and after the rows are never written.
+
+   What comes for one slice, or stays away, changes no sample, no done byte and no answer of another one; the progress counts the macroblocks of all slices.
 
    It waits (5) for the available neighbours that hold what its record reads (jiwarbend_reads_4x4 and the three beside it): each used luma mode in the
    place of its block, and the chroma mode. Where luma 16x16 and chroma are both vertical, that is the neighbour above alone.

@@ -24,6 +24,12 @@
 //! # Ok::<(), Refusal>(())
 //! ```
 //!
+//! # A lost slice
+//!
+//! The samples, marks and answers of a slice hang on nothing that comes for another one: where a slice is garbled, refused or abandoned, the others are
+//! rebuilt as if it had never come, and none of them waits for it. [`Picture::is_slice_finished`] tells which slices are whole. The progress is the
+//! picture's: it counts the macroblocks of all slices.
+//!
 //! # Threads
 //!
 //! One call at a time for a picture; different pictures side by side. The library keeps no state of its own, takes no lock and makes no

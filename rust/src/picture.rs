@@ -381,4 +381,16 @@ impl Picture {
     pub fn is_finished(&self) -> bool {
         self.progress.count() == self.w * self.h
     }
+
+    /// The first macroblock of a slice, by address, that is not done, as column and row: whatever becomes of other slices, it never has to wait.
+    pub fn first_undone_in(&self, slice: u16) -> Option<(u32, u32)> {
+        let address = self.done.iter().zip(&self.slices).position(|(&d, &s)| d != 1 && s == slice)? as u32;
+        Some((address % self.w, address / self.w))
+    }
+
+    /// Whether every macroblock of a slice is done. Then its samples are final and right if its own records came, also where other slices are lost. A
+    /// slice that the picture has not is finished.
+    pub fn is_slice_finished(&self, slice: u16) -> bool {
+        self.first_undone_in(slice).is_none()
+    }
 }

@@ -4,7 +4,7 @@ mod memory;
 mod store;
 
 use jiwarbend::block::{permitted_16x16, permitted_4x4, permitted_8x8, permitted_chroma, Marks};
-use jiwarbend::{ChromaMode, Luma16x16Mode, Progress, Record, Refusal};
+use jiwarbend::{ChromaMode, Luma16x16Mode, Picture, Progress, Record, Refusal};
 use memory::{Memory, Numbers};
 
 type Answer = Result<(), Refusal>;
@@ -482,6 +482,36 @@ fn a_call_sees_its_own_slice_alone() {
         given[answer.map_or_else(Refusal::number, |()| 0) as usize] += 1;
     }
     assert!([0, 2, 4, 5, 6, 7, 8].iter().all(|&answer| given[answer] > 50), "how often each answer was given: {given:?}");
+}
+
+#[test]
+fn the_first_undone_macroblock_of_a_slice_never_waits() {
+    let mut numbers = Numbers(8);
+    for size in SIZES.into_iter().cycle().take(10 * SIZES.len()) {
+        let memory = Memory::of(size, [0; 3], scattered(size, &mut numbers), 0);
+        let mut picture = Picture::with_slices(memory.w, memory.h, memory.slices.clone()).unwrap();
+        let slices = memory.slice_numbers();
+        // What comes for the lost one ends after some macroblocks.
+        let (lost, mut few) = (slices[numbers.below(slices.len() as u32) as usize], numbers.below(9));
+        loop {
+            let open: Vec<u16> = slices.iter().copied().filter(|&s| !picture.is_slice_finished(s) && (s != lost || few > 0)).collect();
+            if open.is_empty() {
+                break;
+            }
+            let slice = open[numbers.below(open.len() as u32) as usize];
+            few -= (slice == lost) as u32;
+            let (x, y) = picture.first_undone_in(slice).unwrap();
+            let address = (y * memory.w + x) as usize;
+            assert!(memory.slices[address] == slice && !picture.is_done(x, y));
+            assert_eq!(picture.rebuild(x, y, &acceptable(memory.sides(address), &mut numbers)), Ok(()));
+        }
+        for slice in slices {
+            let whole = memory.inside(slice).iter().all(|&a| picture.is_done(a as u32 % memory.w, a as u32 / memory.w));
+            assert!(whole || slice == lost);
+            assert_eq!(picture.is_slice_finished(slice), whole);
+        }
+        assert!(picture.is_slice_finished(77) && picture.first_undone_in(77).is_none(), "no macroblock has this number");
+    }
 }
 
 #[test]

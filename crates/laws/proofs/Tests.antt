@@ -118,6 +118,11 @@ choose-both R false a b c d f g = g refl
 pub cond-same : {A : Type 0} (t : Bool) (a b c d : A) → (t ≡ true → a ≡ c) → (t ≡ false → b ≡ d) → cond t a b ≡ cond t c d
 cond-same t a b c d = choose-both _≡_ t a b c d
 
+-- the same where one alternative is fixed
+pub where-same : {A : Type 0} (t : Bool) (a b z : A) → (T t → a ≡ b) → cond t a z ≡ cond t b z
+where-same true a b z f = f tt
+where-same false a b z f = refl
+
 -- ---- a test at every place below n, as a loop that leaves at the first failure shows it
 pub all-none : (f : ℕ → Bool) → allBelow 0 f ≡ true
 unfolding allBelow

@@ -1,6 +1,6 @@
 -- A macroblock's square, rebuilt block by block, is local: its blocks are the parts of a step, each of which reads earlier ones and marked neighbours only.
 -- For every cut and every rule. Assumes nothing.
-use mathlib.Core.Path.{_≡_, refl, sym, ap, ap₂, _∙_, subst}
+use mathlib.Core.Path.{_≡_, sym, ap, ap₂, _∙_, subst}
 use mathlib.Core.Logic.{inl, inr}
 use mathlib.Core.Bool.{Bool, true, false, cond}
 use mathlib.Core.List.{List}
@@ -14,7 +14,7 @@ use lib.ListN.{getD, length}
 use Rattle.laws.proofs.Patches.{length-patch, patch-other, patch-here}
 use Rattle.laws.proofs.Steps.{steps-length}
 use Rattle.laws.proofs.Tables.{table-same}
-use Rattle.laws.proofs.Tests.{T-true}
+use Rattle.laws.proofs.Tests.{T-true, where-same}
 use Rattle.order.specs.Order.{Alike}
 use Rattle.order.specs.Parts.{Parts}
 use Rattle.order.proofs.Parts.{parts-writes, parts-reads}
@@ -62,11 +62,6 @@ module _ (q m : ℕ) (p : Place) (S : Scan m) where
             (sym (div-add-mod' Y m) ∙ ap₂ (λ u v. u * m + v) ey (sym (S .of-y (Z % m) (Y % m) hx hy)))
             (sym (div-add-mod' Z m) ∙ ap₂ (λ u v. u * m + v) ex (sym (S .of-x (Z % m) (Y % m) hx hy))),
       )
-
--- a choice between what two planes hold
-cond-same : (b : Bool) (p q z : ℕ) → (T b → p ≡ q) → cond b p z ≡ cond b q z
-cond-same true p q z f = f tt
-cond-same false p q z f = refl
 
 -- a place of a block lies in the plane
 pub in-plane : {q n : ℕ} {p : Place} (i : ℕ) → BlockIn q p n → At q p i → i < n
@@ -139,15 +134,15 @@ module _ (c : Cut) (rule : Rule) (n s x y : ℕ) (marks : Side → Bool) (S : Sc
 
     above-same : aboveOf q P p (sidesOf m marks k) (c .wide) ≡ aboveOf q P p′ (sidesOf m marks k) (c .wide)
     unfolding aboveOf
-    above-same = table-same (c .wide) _ _ (λ t h. cond-same (isThere m marks k B) _ _ 0 (above-look t h))
+    above-same = table-same (c .wide) _ _ (λ t h. where-same (isThere m marks k B) _ _ 0 (above-look t h))
 
     left-same : leftOf q P p (sidesOf m marks k) ≡ leftOf q P p′ (sidesOf m marks k)
     unfolding leftOf
-    left-same = table-same q _ _ (λ t h. cond-same (isThere m marks k A) _ _ 0 (look A t h))
+    left-same = table-same q _ _ (λ t h. where-same (isThere m marks k A) _ _ 0 (look A t h))
 
     corner-same : cornerOf q P p (sidesOf m marks k) ≡ cornerOf q P p′ (sidesOf m marks k)
     unfolding cornerOf
-    corner-same = cond-same (isThere m marks k D) _ _ 0 (look D 0 some)
+    corner-same = where-same (isThere m marks k D) _ _ 0 (look D 0 some)
 
     near-same : partNear c rule s x y marks k p ≡ partNear c rule s x y marks k p′
     near-same = λ i. near (above-same i) (left-same i) (corner-same i)

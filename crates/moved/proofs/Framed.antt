@@ -1,7 +1,7 @@
 -- A square and what touches it, in blocks counted from one before the square: where the samples beside a block are, and what the blocks put so far leave
 -- there. For every cut and every rule. Assumes nothing.
 use mathlib.Core.Path.{_≡_, refl, sym, ap, ap₂, _∙_}
-use mathlib.Core.Bool.{Bool, true}
+use mathlib.Core.Bool.{Bool}
 use mathlib.Core.List.{List}
 use Prim.Native.Nat.{ℕ, zero, suc, _+_, _*_, _-_, _/_, _%_, _<_, _≤_}
 use native.Mathlib.Nat.{div-add-mod', add-mul, suc-mul, mul-comm, mul-assoc, mul-pos, mul-le-mul-right, le-of-suc-le, div-lt-iff-lt-mul}
@@ -14,7 +14,6 @@ use Rattle.laws.proofs.Digits.{Placed, placed, pred-mul}
 use Rattle.laws.proofs.Tests.{T-true}
 use Rattle.order.specs.Parts.{Parts}
 use Rattle.order.proofs.Parts.{parts-ok}
-use Rattle.basics.specs.Nnz.{blkIdx}
 use Rattle.maps.specs.Neighbours.{Side}
 use Rattle.maps.specs.Neighbours.Side.{A, B, C, D}
 use Rattle.cut.specs.Cut.{Cut, scanX, scanY, nextX, nextY, sidesOf, squareSides}
@@ -78,7 +77,7 @@ block-line q m z j r h = omega (arith, pred-mul j q h, whole-mul q m z, add-mul 
 pub next-line : (q m z r : ℕ) → line q m z (m + 1) r ≡ (z + 1) * (q * m) + r
 next-line q m z r = omega (arith, add-mul m 1 q, add-mul z 1 (q * m), mul-comm q m)
 
--- a line of the square is in one of its block lines
+-- a line of one of its blocks is a line of the square, and the other way round
 pub line-in : (q m j r : ℕ) → j < m → r < q → j * q + r < q * m
 line-in q m j r hj hr = let l : suc j * q ≤ m * q = mul-le-mul-right q hj in omega (arith, suc-mul j q, mul-comm q m)
 
@@ -100,16 +99,16 @@ module _ (c : Cut) (rule : Rule) (marks : Side → Bool) (S : Scan (c .across)) 
   abbrev put : ℕ → List ℕ → List ℕ
   put k plane = part c rule (u .stride) (u .x) (u .y) marks k plane
 
-  -- the plane after the first k blocks
-  abbrev pub now : ℕ → List ℕ
-  now k = upTo (part c rule (u .stride) (u .x) (u .y) marks) k (u .plane)
+  -- the plane with its first k blocks put
+  abbrev pub withFirst : ℕ → List ℕ
+  withFirst k = upTo (part c rule (u .stride) (u .x) (u .y) marks) k (u .plane)
 
   by-parts : Parts (λ p i. getD p i 0) (λ p. length p ≡ length (u .plane)) (Outside c rule (length (u .plane)) (u .stride) (u .x) (u .y) marks S some reach stands)
       (c .across * c .across) (InPart (c .side) (c .across) (placeAt (u .stride) (u .y) (u .x)) S) (part c rule (u .stride) (u .x) (u .y) marks)
   by-parts = parts c rule (length (u .plane)) (u .stride) (u .x) (u .y) marks S some reach stands
 
-  now-long : (k : ℕ) → k ≤ m * m → length (now k) ≡ length (u .plane)
-  now-long k h = parts-ok by-parts (u .plane) k refl h
+  first-long : (k : ℕ) → k ≤ m * m → length (withFirst k) ≡ length (u .plane)
+  first-long k h = parts-ok by-parts (u .plane) k refl h
 
   -- ---- the samples that touch the square
   touch-is : (d : Side) (t : ℕ) → getD (u .plane) (rowAt w (u .y) d t * u .stride + columnAt w (u .x) d t) 0 ≡ touching w u d t
@@ -145,30 +144,30 @@ module _ (c : Cut) (rule : Rule) (marks : Side → Bool) (S : Scan (c .across)) 
 
   -- so they stay what they were
   pub touch-kept : (k : ℕ) → k ≤ m * m → (d : Side) (t : ℕ) → t < w → T (marks d)
-      → getD (now k) (rowAt w (u .y) d t * u .stride + columnAt w (u .x) d t) 0 ≡ touching w u d t
+      → getD (withFirst k) (rowAt w (u .y) d t * u .stride + columnAt w (u .x) d t) 0 ≡ touching w u d t
   unfolding upTo
   touch-kept zero h d t ht v = touch-is d t
   touch-kept (suc k) h d t ht v =
-      by-parts .writes k (now k) _ h (now-long k (le-of-suc-le h)) (λ i. touch-out d t ht v (block-in q m (placeAt (u .stride) (u .y) (u .x)) S k _ h i))
+      by-parts .writes k (withFirst k) _ h (first-long k (le-of-suc-le h)) (λ i. touch-out d t ht v (block-in q m (placeAt (u .stride) (u .y) (u .x)) S k _ h i))
       ∙ touch-kept k (le-of-suc-le h) d t ht v
 
-  -- ---- the sample in row r and column e of block n
-  abbrev pub place : (n r e : ℕ) → ℕ
-  place n r e = ((u .y * c .across + scanY n) * c .side + r) * u .stride + ((u .x * c .across + scanX n) * c .side + e)
+  -- ---- where the sample in row r and column e of block n is
+  abbrev pub indexOf : (n r e : ℕ) → ℕ
+  indexOf n r e = ((u .y * c .across + scanY n) * c .side + r) * u .stride + ((u .x * c .across + scanX n) * c .side + e)
 
   module _ (n r e : ℕ) (hn : n < m * m) (hr : r < q) (he : e < q) where
-    is : Placed q (u .stride) (u .y * m + scanY n) (u .x * m + scanX n) r e (place n r e)
-    is = placed q (u .stride) (u .y * m + scanY n) (u .x * m + scanX n) r e (place n r e) hr he (in-block q m n S some hn (stands .block) .wide) refl
+    is : Placed q (u .stride) (u .y * m + scanY n) (u .x * m + scanX n) r e (indexOf n r e)
+    is = placed q (u .stride) (u .y * m + scanY n) (u .x * m + scanX n) r e (indexOf n r e) hr he (in-block q m n S some hn (stands .block) .wide) refl
 
-    in-part : InPart q m (placeAt (u .stride) (u .y) (u .x)) S n (place n r e)
-    in-part = at-of q (placeOf m (placeAt (u .stride) (u .y) (u .x)) n) (place n r e) (is .Y-is) (is .Z-is)
+    in-part : InPart q m (placeAt (u .stride) (u .y) (u .x)) S n (indexOf n r e)
+    in-part = at-of q (placeOf m (placeAt (u .stride) (u .y) (u .x)) n) (indexOf n r e) (is .Y-is) (is .Z-is)
 
     -- another block leaves it
-    pub other-put : (k : ℕ) → k < m * m → ¬ (n ≡ k) → getD (put k (now k)) (place n r e) 0 ≡ getD (now k) (place n r e) 0
-    other-put k hk d = by-parts .writes k (now k) (place n r e) hk (now-long k (le-of-suc-le hk)) (λ t. d (by-parts .apart n k (place n r e) hn hk in-part t))
+    pub other-put : (k : ℕ) → k < m * m → ¬ (n ≡ k) → getD (put k (withFirst k)) (indexOf n r e) 0 ≡ getD (withFirst k) (indexOf n r e) 0
+    other-put k hk d = by-parts .writes k (withFirst k) (indexOf n r e) hk (first-long k (le-of-suc-le hk)) (λ t. d (by-parts .apart n k (indexOf n r e) hn hk in-part t))
 
     -- its own puts it
-    pub own-put : getD (put n (now n)) (place n r e) 0 ≡ rule n (sidesOf m marks n) (partNear c rule (u .stride) (u .x) (u .y) marks n (now n)) e r
+    pub own-put : getD (put n (withFirst n)) (indexOf n r e) 0 ≡ rule n (sidesOf m marks n) (partNear c rule (u .stride) (u .x) (u .y) marks n (withFirst n)) e r
     own-put =
-        put-at c rule (length (u .plane)) (u .stride) (u .x) (u .y) marks S some reach stands n (now n) (place n r e) hn (now-long n (le-of-suc-le hn)) in-part
-        ∙ ap₂ (rule n (sidesOf m marks n) (partNear c rule (u .stride) (u .x) (u .y) marks n (now n))) (is .c-is) (is .r-is)
+        put-at c rule (length (u .plane)) (u .stride) (u .x) (u .y) marks S some reach stands n (withFirst n) (indexOf n r e) hn (first-long n (le-of-suc-le hn)) in-part
+        ∙ ap₂ (rule n (sidesOf m marks n) (partNear c rule (u .stride) (u .x) (u .y) marks n (withFirst n))) (is .c-is) (is .r-is)

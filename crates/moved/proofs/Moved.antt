@@ -4,7 +4,7 @@ use mathlib.Core.Path.{_≡_, refl, sym, ap, ap₂, _∙_}
 use mathlib.Core.Bool.{Bool, true, false, cond, _&&_}
 use mathlib.Core.List.{List}
 use Prim.Native.Nat.{ℕ, zero, suc, _+_, _*_, _-_, _/_, _%_, _<_, _≤_, min}
-use native.Mathlib.Nat.{le-refl, mod-lt, div-add-mod', add-mul, not-suc-le-zero, le-of-suc-le, mul-le-mul-left}
+use native.Mathlib.Nat.{le-refl, mod-lt, div-add-mod', add-mul, not-suc-le-zero, le-of-suc-le}
 use native.Mathlib.Decide.{decLt, ℕ-discrete}
 use native.Mathlib.Omega.{arith}
 use borrow.Author.Tests.{eqb-true, eqb-false, leb-true, leb-false, ltb-true}
@@ -12,6 +12,7 @@ use lib.Dec.{T, eqb, ltb, leb}
 use lib.ListN.{getD, length}
 use Rattle.laws.specs.Steps.{upTo}
 use Rattle.laws.proofs.Tables.{table-same}
+use Rattle.laws.proofs.Tests.{where-same}
 use Rattle.basics.specs.Near.{near}
 use Rattle.basics.specs.Nnz.{blkIdx}
 use Rattle.maps.specs.Neighbours.{Side}
@@ -21,25 +22,20 @@ use Rattle.cut.specs.Cut.Holder.{own, other, nobody}
 use Rattle.cut.specs.inner.Blocks.{Scan}
 use Rattle.cut.proofs.Scan.{scan-1, scan-2, scan-4}
 use Rattle.macroblock.specs.Kinds.{lumaRule, chromaRule}
-use Rattle.macroblock.specs.Square.{placeAt, aboveOf, leftOf, cornerOf, Rule, partPlace, partNear, part, allParts}
+use Rattle.macroblock.specs.Square.{placeAt, aboveOf, leftOf, cornerOf, Rule, partPlace, partNear, allParts}
 use Rattle.macroblock.specs.declared.Record.{Record}
 use Rattle.macroblock.specs.inner.Blocks.{StandsIn}
 use Rattle.macroblock.proofs.Held.{rowAt, columnAt}
 use Rattle.macroblock.proofs.Rooms.{room-stands}
 use Rattle.moved.specs.Moved.{Site, SameAround, HasRoom, SameLeft, Moved}
-use Rattle.moved.proofs.Framed.{columnIn, rowIn, line, whole-mul, row-line, column-line, first-line, inner-line, block-line, next-line, line-in, line-of, now, touch-kept, place, other-put, own-put}
-
--- a choice between what two planes hold
-where-there : (b : Bool) (p q z : ℕ) → (T b → p ≡ q) → cond b p z ≡ cond b q z
-where-there true p q z f = f tt
-where-there false p q z f = refl
+use Rattle.moved.proofs.Framed.{columnIn, rowIn, line, whole-mul, row-line, column-line, first-line, inner-line, block-line, next-line, line-in, line-of, withFirst, touch-kept, indexOf, other-put, own-put}
 
 abbrev Stands : ℕ → (Side → Bool) → Site → Type 0
 Stands q marks u = StandsIn q (placeAt (u .stride) (u .y) (u .x)) (length (u .plane)) (squareSides marks)
 
 -- ---- a macroblock at two places
 module _ (c : Cut) (rule : Rule) (marks : Side → Bool) (S : Scan (c .across)) (some : 0 < c .side) (reach : c .wide ≤ 2 * c .side) (u v : Site)
-    (U : Stands (c .side * c .across) marks u) (V′ : Stands (c .side * c .across) marks v) (same : SameAround (c .side * c .across) marks u v) where
+    (at-u : Stands (c .side * c .across) marks u) (at-v : Stands (c .side * c .across) marks v) (same : SameAround (c .side * c .across) marks u v) where
   abbrev q : ℕ
   q = c .side
 
@@ -49,31 +45,31 @@ module _ (c : Cut) (rule : Rule) (marks : Side → Bool) (S : Scan (c .across)) 
   abbrev w : ℕ
   w = c .side * c .across
 
-  -- the planes after the first k blocks
-  abbrev here : ℕ → List ℕ
-  here k = now c rule marks S some reach u U k
+  -- the two planes with their first k blocks put
+  abbrev one : ℕ → List ℕ
+  one k = withFirst c rule marks S some reach u at-u k
 
-  abbrev there : ℕ → List ℕ
-  there k = now c rule marks S some reach v V′ k
+  abbrev two : ℕ → List ℕ
+  two k = withFirst c rule marks S some reach v at-v k
 
   -- a sample of both, by where its row and its column are from each place
   abbrev Shows : ℕ → (Site → ℕ) → (Site → ℕ) → Type 0
-  Shows k row column = getD (here k) (row u * u .stride + column u) 0 ≡ getD (there k) (row v * v .stride + column v) 0
+  Shows k row column = getD (one k) (row u * u .stride + column u) 0 ≡ getD (two k) (row v * v .stride + column v) 0
 
   -- the same sample by other words
   reworded : (k : ℕ) {row row′ column column′ : Site → ℕ} → ((a : Site) → row a ≡ row′ a) → ((a : Site) → column a ≡ column′ a) → Shows k row′ column′ → Shows k row column
   reworded k e f h =
-      ap₂ (λ r n. getD (here k) (r * u .stride + n) 0) (e u) (f u) ∙ h ∙ sym (ap₂ (λ r n. getD (there k) (r * v .stride + n) 0) (e v) (f v))
+      ap₂ (λ r n. getD (one k) (r * u .stride + n) 0) (e u) (f u) ∙ h ∙ sym (ap₂ (λ r n. getD (two k) (r * v .stride + n) 0) (e v) (f v))
 
   -- the first k blocks are alike
-  abbrev Alike : ℕ → Type 0
-  Alike k = (n r e : ℕ) → n < k → r < q → e < q → Shows k (λ a. (a .y * m + scanY n) * q + r) (λ a. (a .x * m + scanX n) * q + e)
+  abbrev BlocksAlike : ℕ → Type 0
+  BlocksAlike k = (n r e : ℕ) → n < k → r < q → e < q → Shows k (λ a. (a .y * m + scanY n) * q + r) (λ a. (a .x * m + scanX n) * q + e)
 
   touches : (k : ℕ) → k ≤ m * m → (d : Side) (t : ℕ) → t < w → T (marks d) → Shows k (λ a. rowAt w (a .y) d t) (λ a. columnAt w (a .x) d t)
-  touches k h d t ht o = touch-kept c rule marks S some reach u U k h d t ht o ∙ same d o t ht ∙ sym (touch-kept c rule marks S some reach v V′ k h d t ht o)
+  touches k h d t ht o = touch-kept c rule marks S some reach u at-u k h d t ht o ∙ same d o t ht ∙ sym (touch-kept c rule marks S some reach v at-v k h d t ht o)
 
   -- ---- the samples beside block k
-  module _ (k : ℕ) (hk : k < m * m) (alike : Alike k) where
+  module _ (k : ℕ) (hk : k < m * m) (alike : BlocksAlike k) where
     -- column e and row r of block column i and block row j, counted from one before the square
     module _ (i j e r : ℕ) (hi : i ≤ m + 1) (hj : j ≤ m) (he : e < q) (hr : r < q) (last-e : i ≡ 0 → suc e ≡ q) (last-r : j ≡ 0 → suc r ≡ q) where
       abbrev Known : Type 0
@@ -100,7 +96,7 @@ module _ (c : Cut) (rule : Rule) (marks : Side → Bool) (S : Scan (c .across)) 
       held-same = go (eqb j 0) (eqb i 0) (leb i m) (ltb (blkIdx (i - 1) (j - 1)) k) refl refl refl refl
         where
           pos : 0 < w
-          pos = U .block .some
+          pos = at-u .block .some
 
           go : (b₁ b₂ b₃ b₄ : Bool) → eqb j 0 ≡ b₁ → eqb i 0 ≡ b₂ → leb i m ≡ b₃ → ltb (blkIdx (i - 1) (j - 1)) k ≡ b₄
               → T (heldBy marks (cond b₁ (cond b₂ (other D) (cond b₃ (other B) (other C))) (cond b₂ (other A) (cond (b₃ && b₄) own nobody)))) → Known
@@ -159,32 +155,32 @@ module _ (c : Cut) (rule : Rule) (marks : Side → Bool) (S : Scan (c .across)) 
     abbrev aboveAt : Site → List ℕ → List ℕ
     aboveAt a plane = aboveOf q (partPlace c rule (a .stride) (a .x) (a .y) marks k) plane (sidesOf m marks k) (c .wide)
 
-    above-same : aboveAt u (here k) ≡ aboveAt v (there k)
+    above-same : aboveAt u (one k) ≡ aboveAt v (two k)
     unfolding aboveOf
     above-same =
         table-same (c .wide) _ _ (λ t h.
         let l = last-there (isThere m marks k C) t h in
-        where-there (isThere m marks k B) _ _ 0 (λ b. above-look (min t (cond (isThere m marks k C) (2 * q - 1) (q - 1))) (l .0) b (l .1)))
+        where-same (isThere m marks k B) _ _ 0 (λ b. above-look (min t (cond (isThere m marks k C) (2 * q - 1) (q - 1))) (l .0) b (l .1)))
 
     abbrev leftAt : Site → List ℕ → List ℕ
     leftAt a plane = leftOf q (partPlace c rule (a .stride) (a .x) (a .y) marks k) plane (sidesOf m marks k)
 
-    left-same : leftAt u (here k) ≡ leftAt v (there k)
+    left-same : leftAt u (one k) ≡ leftAt v (two k)
     unfolding leftOf
-    left-same = table-same q _ _ (λ t h. where-there (isThere m marks k A) _ _ 0 (look A t h))
+    left-same = table-same q _ _ (λ t h. where-same (isThere m marks k A) _ _ 0 (look A t h))
 
     abbrev cornerAt : Site → List ℕ → ℕ
     cornerAt a plane = cornerOf q (partPlace c rule (a .stride) (a .x) (a .y) marks k) plane (sidesOf m marks k)
 
-    corner-same : cornerAt u (here k) ≡ cornerAt v (there k)
+    corner-same : cornerAt u (one k) ≡ cornerAt v (two k)
     unfolding cornerOf
-    corner-same = where-there (isThere m marks k D) _ _ 0 (look D 0 some)
+    corner-same = where-same (isThere m marks k D) _ _ 0 (look D 0 some)
 
-    near-same : partNear c rule (u .stride) (u .x) (u .y) marks k (here k) ≡ partNear c rule (v .stride) (v .x) (v .y) marks k (there k)
+    near-same : partNear c rule (u .stride) (u .x) (u .y) marks k (one k) ≡ partNear c rule (v .stride) (v .x) (v .y) marks k (two k)
     near-same = λ i. near (above-same i) (left-same i) (corner-same i)
 
   -- ---- all blocks, one after the other
-  alike-all : (k : ℕ) → k ≤ m * m → Alike k
+  alike-all : (k : ℕ) → k ≤ m * m → BlocksAlike k
   unfolding upTo
   alike-all zero h n r e hn hr he = absurd (not-suc-le-zero hn)
   alike-all (suc k) h n r e hn hr he = go (alike-all k (le-of-suc-le h)) (ℕ-discrete n k)
@@ -192,16 +188,16 @@ module _ (c : Cut) (rule : Rule) (marks : Side → Bool) (S : Scan (c .across)) 
       ln : n < m * m
       ln = omega arith
 
-      go : Alike k → Dec (n ≡ k) → Shows (suc k) (λ a. (a .y * m + scanY n) * q + r) (λ a. (a .x * m + scanX n) * q + e)
+      go : BlocksAlike k → Dec (n ≡ k) → Shows (suc k) (λ a. (a .y * m + scanY n) * q + r) (λ a. (a .x * m + scanX n) * q + e)
       go ih (yes d) =
-          ap (λ z. getD (here (suc k)) (place c rule marks S some reach u U z r e) 0) d
-          ∙ own-put c rule marks S some reach u U k r e h hr he
+          ap (λ z. getD (one (suc k)) (indexOf c rule marks S some reach u at-u z r e) 0) d
+          ∙ own-put c rule marks S some reach u at-u k r e h hr he
           ∙ ap (λ z. rule k (sidesOf m marks k) z e r) (near-same k h ih)
-          ∙ sym (own-put c rule marks S some reach v V′ k r e h hr he)
-          ∙ sym (ap (λ z. getD (there (suc k)) (place c rule marks S some reach v V′ z r e) 0) d)
+          ∙ sym (own-put c rule marks S some reach v at-v k r e h hr he)
+          ∙ sym (ap (λ z. getD (two (suc k)) (indexOf c rule marks S some reach v at-v z r e) 0) d)
       go ih (no d) =
-          other-put c rule marks S some reach u U n r e ln hr he k h d ∙ ih n r e (omega arith) hr he
-          ∙ sym (other-put c rule marks S some reach v V′ n r e ln hr he k h d)
+          other-put c rule marks S some reach u at-u n r e ln hr he k h d ∙ ih n r e (omega arith) hr he
+          ∙ sym (other-put c rule marks S some reach v at-v n r e ln hr he k h d)
 
   -- line i of square z is one of block line n, where that one is number i / q
   in-block-line : (z i n : ℕ) → n ≡ i / q → z * w + i ≡ (z * m + n) * q + i % q

@@ -39,13 +39,13 @@ abbrev pub HasRoom : ℕ → (Side → Bool) → Site → Type 0
 HasRoom q marks u = room q (length (u .plane)) (u .stride) (u .x) (u .y) marks ≡ true
 
 -- the sample in column i and row j of the square of side q, in a plane
-abbrev pub within : ℕ → Site → List ℕ → (i j : ℕ) → ℕ
-within q u plane i j = getD plane ((u .y * q + j) * u .stride + (u .x * q + i)) 0
+abbrev pub squareAt : ℕ → Site → List ℕ → (i j : ℕ) → ℕ
+squareAt q u plane i j = getD plane ((u .y * q + j) * u .stride + (u .x * q + i)) 0
 
 -- a step, which is given place, stride and plane, leaves the same square at both
 abbrev pub SameLeft : ℕ → ((x y stride : ℕ) → List ℕ → List ℕ) → Site → Site → Type 0
 SameLeft q step u v = (i j : ℕ) → i < q → j < q
-    → within q u (step (u .x) (u .y) (u .stride) (u .plane)) i j ≡ within q v (step (v .x) (v .y) (v .stride) (v .plane)) i j
+    → squareAt q u (step (u .x) (u .y) (u .stride) (u .plane)) i j ≡ squareAt q v (step (v .x) (v .y) (v .stride) (v .plane)) i j
 
 pub record Moved (marks : Side → Bool) (r : Record) : Type 0 where
   pub luma : (u v : Site) → HasRoom 16 marks u → HasRoom 16 marks v → SameAround 16 marks u v → SameLeft 16 (λ x y s. lumaSquare x y marks r s) u v

@@ -9,13 +9,12 @@ use native.Mathlib.Decide.{ℕ-discrete}
 use native.Mathlib.Omega.{arith}
 use lib.Dec.{eqb, leb}
 use lib.ListN.{getD, length}
-use borrow.Author.Tests.{eqb-true, eqb-false, leb-true}
+use borrow.Author.Tests.{eqb-true, eqb-false}
 use Rattle.laws.proofs.Answers.{kept}
 use Rattle.laws.proofs.Tests.{no-from, and-left, and-right, and-same, cond-same}
 use Rattle.order.specs.Driver.{after, play, answers}
 use Rattle.maps.specs.Done.{isDone, allSettled}
 use Rattle.maps.specs.Neighbours.{Side, inPicture, beside}
-use Rattle.maps.specs.Progress.{acceptedOf}
 use Rattle.maps.specs.Size.{total, sizeOk, placeOk}
 use Rattle.maps.specs.declared.progress.Progress.{Progress}
 use Rattle.maps.proofs.Beside.{available-at}
@@ -29,8 +28,8 @@ use Rattle.calls.specs.Run.{Picture, driver}
 use Rattle.calls.proofs.Lending.{LentRoom, room-is}
 use Rattle.calls.proofs.OnePicture.{accepted-passed}
 use Rattle.calls.proofs.Rules.{waits-available}
-use Rattle.slices.specs.Answers.{SameSlice, Foreign, only, answersOnly, OfPicture, Answers}
-use Rattle.slices.proofs.Left.{by-answer, leaves, keeps-bytes, keeps-samples, keeps-long, keeps-mark, mark-here, few-before, few-after}
+use Rattle.slices.specs.Answers.{SameSlice, Foreign, callsIn, answersIn, OfPicture, Answers}
+use Rattle.slices.proofs.Leaves.{by-answer, leaves, keeps-bytes, keeps-samples, keeps-long, keeps-mark, mark-here, few-before, few-after}
 
 -- ---- neighbours end at the slice's border
 pub reads-own : (c : Call) (k : Side) → marks c k ≡ true → SameSlice c (beside (c .width) (c .x) (c .y) k)
@@ -51,11 +50,11 @@ abbrev TwinFor : Call → Lent → Lent → Type 0
 TwinFor c s t = Twin (total (c .width) (c .height)) (c .slices) (getD (c .slices) (here c) 0) s t
 
 -- ---- the answer
-abbrev room : Call → Lent → Bool
-room c u = roomOk (c .width) (c .height) (c .stride) (λ p. length (u .planes p)) (length (u .done)) (length (c .slices)) (u .progress .count)
+abbrev roomFor : Call → Lent → Bool
+roomFor c u = roomOk (c .width) (c .height) (c .stride) (λ p. length (u .planes p)) (length (u .done)) (length (c .slices)) (u .progress .count)
 
 module _ (c : Call) (s t : Lent) (w : TwinFor c s t) where
-  room-same : room c s ≡ room c t
+  room-same : roomFor c s ≡ roomFor c t
   unfolding roomOk
   room-same =
       let n = total (c .width) (c .height) in
@@ -83,7 +82,7 @@ module _ (c : Call) (s t : Lent) (w : TwinFor c s t) where
   unfolding rules
   twin-answer =
       cond-same (sizeOk (c .width) (c .height)) _ _ _ _
-      (λ _. rw room-same (cond-same (room c t) _ _ _ _
+      (λ _. rw room-same (cond-same (roomFor c t) _ _ _ _
       (λ _. cond-same (listsGood (c .mb)) _ _ _ _
       (λ _. cond-same (placeOk (c .width) (c .height) (c .x) (c .y)) _ _ _ _
       (λ h. rw (w .marked (here c) (in-picture h) refl, ready-same h))
@@ -150,16 +149,16 @@ module _ (g : Picture) (σ : ℕ) where
 
   -- the answers are the same, and at the end the slice cannot tell
   abbrev Alone : List Call → Lent → Lent → Type 0
-  Alone cs s t = (answersOnly (g .slices) σ cs s ≡ answers driver (only (g .slices) σ cs) t) × TwinIn (play driver cs s) (play driver (only (g .slices) σ cs) t)
+  Alone cs s t = (answersIn (g .slices) σ cs s ≡ answers driver (callsIn (g .slices) σ cs) t) × TwinIn (play driver cs s) (play driver (callsIn (g .slices) σ cs) t)
 
   alone-from : (cs : List Call) (s t : Lent) → OfPicture g σ cs → TwinIn s t → Alone cs s t
   alone-from [] s t o w = (refl, w)
   alone-from (c ∷ cs) s t o w = go (alone-from cs) (eqb (getD (g .slices) (here c) 0) σ) refl
     where
       go : ((s t : Lent) → OfPicture g σ cs → TwinIn s t → Alone cs s t) → (b : Bool) → eqb (getD (g .slices) (here c) 0) σ ≡ b
-          → (cond b (answerTo c s ∷ answersOnly (g .slices) σ cs (after driver c s)) (answersOnly (g .slices) σ cs (after driver c s))
-          ≡ answers driver (cond b (c ∷ only (g .slices) σ cs) (only (g .slices) σ cs)) t)
-          × TwinIn (play driver cs (after driver c s)) (play driver (cond b (c ∷ only (g .slices) σ cs) (only (g .slices) σ cs)) t)
+          → (cond b (answerTo c s ∷ answersIn (g .slices) σ cs (after driver c s)) (answersIn (g .slices) σ cs (after driver c s))
+          ≡ answers driver (cond b (c ∷ callsIn (g .slices) σ cs) (callsIn (g .slices) σ cs)) t)
+          × TwinIn (play driver cs (after driver c s)) (play driver (cond b (c ∷ callsIn (g .slices) σ cs) (callsIn (g .slices) σ cs)) t)
       go more true e =
           let k : getD (g .slices) (here c) 0 ≡ σ = eqb-true _ _ e in
           let same = twin-answer c s t (of-call c s t k (o .0 k) w) in
@@ -174,12 +173,12 @@ module _ (g : Picture) (σ : ℕ) where
 count-asked : (c : Call) (s : Lent) (p : Progress) → answerTo c s ≡ 0 → total (c .width) (c .height) < p .count
     → answerTo c (record { planes = s .planes; done = s .done; progress = p }) ≡ 2
 unfolding rules
-count-asked c s p e h = rw (size-yes (c .width) (c .height) (accepted-passed c s e .size), no-from (room c t) (λ o. facts o .few) (λ l. omega arith))
+count-asked c s p e h = rw (size-yes (c .width) (c .height) (accepted-passed c s e .size), no-from (roomFor c t) (λ o. facts o .few) (λ l. omega arith))
   where
     t : Lent
     t = record { planes = s .planes; done = s .done; progress = p }
 
-    facts : room c t ≡ true → LentRoom (c .width) (c .height) (c .stride) (λ q. length (s .planes q)) (length (s .done)) (length (c .slices)) (p .count)
+    facts : roomFor c t ≡ true → LentRoom (c .width) (c .height) (c .stride) (λ q. length (s .planes q)) (length (s .done)) (length (c .slices)) (p .count)
     facts = room-is (c .width) (c .height) (c .stride) (λ q. length (s .planes q)) (length (s .done)) (length (c .slices)) (p .count)
 
 pub slice-answers : Answers

@@ -18,7 +18,7 @@ use Rattle.calls.specs.Rebuild.{Call, Lent, here, answerTo}
 use Rattle.calls.specs.Run.{Picture, offer, driver, Own}
 use Rattle.calls.proofs.OnePicture.{accepted-passed}
 use Rattle.slices.specs.LostSlice.{offerWith, OwnIn}
-use Rattle.slices.proofs.Left.{by-answer, leaves, in-map}
+use Rattle.slices.proofs.Leaves.{by-answer, leaves, in-map}
 
 -- a picture of the same size and slice map
 abbrev pub variant : Picture → (Plane → ℕ) → (ℕ → Record) → Picture

@@ -2,6 +2,6 @@
 mod Answers
 mod Carried
 mod Decoded
-mod Left
+mod Leaves
 mod LostSlice
 pub mod SlicesApart

@@ -1,6 +1,6 @@
 -- The samples of a slice follow from that slice's records: a macroblock is rebuilt from neighbours of its own slice, by address before it, and so two
 -- decoded pictures are alike there, macroblock by macroblock; what is done in a run is as decoded. Assumes nothing.
-use mathlib.Core.Path.{_≡_, refl, sym, ap, ap₂, subst, _∙_}
+use mathlib.Core.Path.{_≡_, refl, sym, ap, subst, _∙_}
 use mathlib.Core.Bool.{Bool, true}
 use mathlib.Core.List.{List, [], _∷_}
 use Prim.Native.Nat.{ℕ, zero, suc, _+_, _*_, _-_, _/_, _%_, _<_}
@@ -18,7 +18,6 @@ use Rattle.maps.specs.Neighbours.{Side, besideX, besideY, beside}
 use Rattle.maps.specs.Neighbours.Side.{A, B, C, D}
 use Rattle.cut.specs.Cut.{squareSides}
 use Rattle.macroblock.specs.Kinds.{lumaSquare, cbSquare, crSquare}
-use Rattle.macroblock.specs.Rules.{room}
 use Rattle.macroblock.specs.Square.{inBlock, placeAt}
 use Rattle.macroblock.specs.declared.Record.{Record}
 use Rattle.macroblock.specs.inner.Blocks.{SidesIn}
@@ -31,15 +30,15 @@ use Rattle.calls.specs.Planes.Plane.{luma, cb, cr}
 use Rattle.calls.specs.Rebuild.{Call, Lent, here, marks, Acceptable, answerTo, squareIn}
 use Rattle.calls.specs.Run.{Picture, totalOf, offer, Awaits, Lends, Planes, decoded, sampleAt, Region, driver, started, run, Own}
 use Rattle.calls.proofs.AnyOrder.{any-order}
-use Rattle.calls.proofs.OnePicture.{fair, spares, offer-here, bytes, begins, planes-kept, fits, place, stands, acceptable}
+use Rattle.calls.proofs.OnePicture.{fair, spares, offer-here, bytes, begins, planes-kept, stands, acceptable}
 use Rattle.calls.proofs.Regions.{apart}
 use Rattle.calls.proofs.Rules.{waits-available}
-use Rattle.calls.proofs.Squares.{square-room, side-pos}
+use Rattle.calls.proofs.Squares.{side-pos}
 use Rattle.slices.specs.LostSlice.{InSlice, ShareSlice, SameSamples, LostSlice, OwnIn, Elsewhere, FirstIn, AmongOthers}
 use Rattle.slices.proofs.Answers.{reads-own}
 use Rattle.slices.proofs.Carried.{variant, carried, carried-in, carried-own}
-use Rattle.slices.proofs.Decoded.{long, fixed, in-region}
-use Rattle.slices.proofs.Left.{by-answer, keeps-samples, keeps-mark}
+use Rattle.slices.proofs.Decoded.{siteOf, fixed, has-room, in-region}
+use Rattle.slices.proofs.Leaves.{by-answer, keeps-samples, keeps-mark}
 
 -- ---- a square in any of the planes
 squareBy : Plane → (Side → Bool) → Record → (x y stride : ℕ) → List ℕ → List ℕ
@@ -91,20 +90,16 @@ module _ (σ : ℕ) (g : Picture) (stride : Plane → ℕ) (records : ℕ → Re
       y = a / g .width
 
       abbrev u : Plane → Site
-      u p = record { stride = g .stride p; x = a % g .width; y = a / g .width; plane = decoded g (s .planes) p }
+      u p = siteOf g now a p
 
       abbrev v : Plane → Site
-      v p = record { stride = stride p; x = a % g .width; y = a / g .width; plane = decoded (variant g stride records) (s′ .planes) p }
+      v p = siteOf g′ then a p
 
       room-u : (p : Plane) → HasRoom (side p) m (u p)
-      room-u p =
-          subst (λ n. room (side p) n (g .stride p) x y m ≡ true) (sym (long g s lends p))
-          (square-room (side p) (g .width) (g .height) (g .stride p) (bytes g s lends p) x y (side-pos p) (fits g s lends p) (place g s lends a (h .0)) (g .slices))
+      room-u = has-room g s lends a (h .0)
 
       room-v : (p : Plane) → HasRoom (side p) m (v p)
-      room-v p =
-          subst (λ n. room (side p) n (stride p) x y m ≡ true) (sym (long g′ s′ lends′ p))
-          (square-room (side p) (g .width) (g .height) (stride p) (bytes g′ s′ lends′ p) x y (side-pos p) (fits g′ s′ lends′ p) (place g′ s′ lends′ a (h .0)) (g .slices))
+      room-v = has-room g′ s′ lends′ a (h .0)
 
       module _ (p : Plane) where
         abbrev q : ℕ

@@ -27,15 +27,15 @@ Foreign c [] = Unit {0}
 Foreign c (d ∷ ds) = ¬ SameSlice c (here d) × Foreign c ds
 
 -- ---- the calls of slice σ in a run, the others left out
-abbrev pub only : List ℕ → ℕ → List Call → List Call
-only slices σ [] = []
-only slices σ (c ∷ cs) = cond (eqb (getD slices (here c) 0) σ) (c ∷ only slices σ cs) (only slices σ cs)
+abbrev pub callsIn : List ℕ → ℕ → List Call → List Call
+callsIn slices σ [] = []
+callsIn slices σ (c ∷ cs) = cond (eqb (getD slices (here c) 0) σ) (c ∷ callsIn slices σ cs) (callsIn slices σ cs)
 
 -- and their answers among the run's
-abbrev pub answersOnly : List ℕ → ℕ → List Call → Lent → List ℕ
-answersOnly slices σ [] s = []
-answersOnly slices σ (c ∷ cs) s =
-    let rest = answersOnly slices σ cs (after driver c s) in cond (eqb (getD slices (here c) 0) σ) (answerTo c s ∷ rest) rest
+abbrev pub answersIn : List ℕ → ℕ → List Call → Lent → List ℕ
+answersIn slices σ [] s = []
+answersIn slices σ (c ∷ cs) s =
+    let rest = answersIn slices σ cs (after driver c s) in cond (eqb (getD slices (here c) 0) σ) (answerTo c s ∷ rest) rest
 
 -- the calls of slice σ have the picture's size and slice map; their strides and records are any, and so is all of the other calls
 abbrev pub OfPicture : Picture → ℕ → List Call → Type 0
@@ -56,9 +56,9 @@ pub record Answers : Type 0 where
   -- whatever is offered there, taken or refused, a call's answer stays what it was: it is neither more nor less ready
   pub unmoved : (c : Call) (ds : List Call) (s : Lent) → Foreign c ds → answerTo c (play driver ds s) ≡ answerTo c s
   -- a slice's calls are answered as if the others' had never come, and leave the same done marks in it
-  pub alone : (g : Picture) (σ : ℕ) (cs : List Call) (s : Lent) → OfPicture g σ cs → answersOnly (g .slices) σ cs s ≡ answers driver (only (g .slices) σ cs) s
+  pub alone : (g : Picture) (σ : ℕ) (cs : List Call) (s : Lent) → OfPicture g σ cs → answersIn (g .slices) σ cs s ≡ answers driver (callsIn (g .slices) σ cs) s
   pub alone-marks : (g : Picture) (σ : ℕ) (cs : List Call) (s : Lent) → OfPicture g σ cs → (b : ℕ) → InSlice g σ b
-      → isDone (play driver cs s .done) b ≡ isDone (play driver (only (g .slices) σ cs) s .done) b
+      → isDone (play driver cs s .done) b ≡ isDone (play driver (callsIn (g .slices) σ cs) s .done) b
   -- ---- what one call can touch, whatever it carries: the samples of its own macroblock, by its own strides, and its own done mark
   pub other-samples : (c : Call) (s : Lent) (p : Plane) (i : ℕ) → ¬ T (inBlock (side p) (c .stride p) (c .y) (c .x) i)
       → getD (after driver c s .planes p) i 0 ≡ getD (s .planes p) i 0
