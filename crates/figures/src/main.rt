@@ -1,6 +1,7 @@
 // Runs the limits that the rules name and that are not proved as figures: strides, offsets, lengths and numbers of the block calls, sizes, maps and
-// records of the picture calls, and pictures rebuilt in two orders. Each line says what was called and what came of it.
+// records of the picture calls, pictures rebuilt in two orders, and one with a slice lost. Each line says what was called and what came of it.
 mod blocks; // calls on one block
+mod lost; // a picture with a slice lost
 mod offer; // a record to a picture
 mod pictures; // calls on a picture
 mod ranges; // blocks of coefficients at the ends of the range
@@ -32,4 +33,5 @@ fn main() {
     pictures::refusals();
     pictures::ranges();
     shuffled::compare();
+    lost::lose();
 }

@@ -12,9 +12,9 @@ use maps::size::Spot;
 
 const SLICES: [u16; 6] = [0, 0, 1, 0, 0, 1];
 
-const RASTER: [u32; 6] = [0, 1, 2, 3, 4, 5];
+pub(crate) const RASTER: [u32; 6] = [0, 1, 2, 3, 4, 5];
 
-const SHUFFLED: [u32; 6] = [4, 2, 5, 3, 1, 0];
+pub(crate) const SHUFFLED: [u32; 6] = [4, 2, 5, 3, 1, 0];
 
 // Macroblock 4 comes after B alone, and before A, its left neighbour 3, and C, 2; macroblock 3 before C.
 const DOWNWARDS: [u32; 6] = [0, 1, 4, 3, 2, 5];
@@ -138,30 +138,61 @@ fn vertical_record_of(a: usize) -> Record {
     }
 }
 
-// The two pictures: the slice map, and the record of macroblock a.
-fn slices_of(second: bool) -> [u16; 6] {
-    if second {
+// A record of a kind that there is not.
+fn unknown_record_of(a: usize) -> Record {
+    let modes = modes_of(a);
+    let numbers = numbers_of(a);
+    Record {
+        kind: 3,
+        modes,
+        chroma_mode: 0,
+        numbers,
+    }
+}
+
+// The pictures: the first and the second, and the first with other records for its second slice, which is its last column: those of the second picture,
+// or of an unknown kind.
+pub(crate) const FIRST: u32 = 0;
+
+const SECOND: u32 = 1;
+
+pub(crate) const GARBLED: u32 = 2;
+
+pub(crate) const UNKNOWN: u32 = 3;
+
+// The slice map of a picture, and the record that comes for macroblock a.
+fn slices_of(picture: u32) -> [u16; 6] {
+    if picture == SECOND {
         return [0u16; 6];
     }
     SLICES
 }
 
-fn offered(second: bool, a: usize) -> Record {
-    if second {
+fn offered(picture: u32, a: usize) -> Record {
+    if picture == SECOND {
         return vertical_record_of(a);
+    }
+    if a % 3 < 2 {
+        return record_of(a);
+    }
+    if picture == GARBLED {
+        return vertical_record_of(a);
+    }
+    if picture == UNKNOWN {
+        return unknown_record_of(a);
     }
     record_of(a)
 }
 
 // How often each answer was given.
-struct Answers {
+pub(crate) struct Answers {
     accepted: u32,
     done: u32,
     not_ready: u32,
     other: u32,
 }
 
-fn one_more(n: u32) -> u32 {
+pub(crate) fn one_more(n: u32) -> u32 {
     std::num::wrapping_add_u32(n, 1)
 }
 
@@ -180,8 +211,8 @@ fn count(n: Answers, answer: u32) -> Answers {
 }
 
 // The answers to so many offers of one of the pictures in an order that comes round, each macroblock with its own record.
-fn rebuild_all(
-    second: bool,
+pub(crate) fn rebuild_all(
+    picture: u32,
     order: [u32; 6],
     offers: usize,
     luma: &mut [u8],
@@ -204,7 +235,7 @@ fn rebuild_all(
         cb: 27,
         cr: 27,
     };
-    let slices = slices_of(second);
+    let slices = slices_of(picture);
     for i in 0..offers {
         let a = order[i % 6];
         let spot = Spot {
@@ -222,7 +253,7 @@ fn rebuild_all(
             done,
             &slices,
             &mut progress,
-            offered(second, a as usize),
+            offered(picture, a as usize),
         );
         n = count(n, r);
     }
@@ -230,7 +261,7 @@ fn rebuild_all(
     n
 }
 
-fn tell_answers(n: Answers) {
+pub(crate) fn tell_answers(n: Answers) {
     tell(b"  accepted", n.accepted);
     tell(b"  refused as done", n.done);
     tell(b"  refused as not ready", n.not_ready);
@@ -295,16 +326,16 @@ fn tell_differing(d: Differing) {
 // The first picture, and the second.
 pub(crate) fn compare() {
     io::write_all(STDOUT_FILENO, b"two slices, six rounds\n");
-    both_orders(false, SHUFFLED, 36);
+    both_orders(FIRST, SHUFFLED, 36);
     io::write_all(
         STDOUT_FILENO,
         b"one slice, vertical macroblocks below DC, one round\n",
     );
-    both_orders(true, DOWNWARDS, 6);
+    both_orders(SECOND, DOWNWARDS, 6);
 }
 
 // A picture in raster order, and then in another one.
-fn both_orders(second: bool, order: [u32; 6], offers: usize)
+fn both_orders(picture: u32, order: [u32; 6], offers: usize)
     requires { ⌜ offers ≤ 36 ⌝ }
 {
     let mut luma = [11u8; 1670];
@@ -313,7 +344,7 @@ fn both_orders(second: bool, order: [u32; 6], offers: usize)
     let mut done = [1u8; 6];
     io::write_all(STDOUT_FILENO, b"raster order\n");
     let n = rebuild_all(
-        second,
+        picture,
         RASTER,
         offers,
         &mut luma,
@@ -322,11 +353,11 @@ fn both_orders(second: bool, order: [u32; 6], offers: usize)
         &mut done,
     );
     tell_answers(n);
-    shuffle(second, order, offers, &luma, &cb, &cr);
+    shuffle(picture, order, offers, &luma, &cb, &cr);
 }
 
 // The other run, and what differs.
-fn shuffle(second: bool, order: [u32; 6], offers: usize, luma: &[u8], cb: &[u8], cr: &[u8])
+fn shuffle(picture: u32, order: [u32; 6], offers: usize, luma: &[u8], cb: &[u8], cr: &[u8])
     requires { ⌜ offers ≤ 36 ⌝ }
 {
     let mut luma2 = [201u8; 1670];
@@ -335,7 +366,7 @@ fn shuffle(second: bool, order: [u32; 6], offers: usize, luma: &[u8], cb: &[u8],
     let mut done = [0u8; 6];
     io::write_all(STDOUT_FILENO, b"another order\n");
     let n = rebuild_all(
-        second,
+        picture,
         order,
         offers,
         &mut luma2,
