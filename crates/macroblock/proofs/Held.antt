@@ -1,20 +1,19 @@
 -- The samples beside a block lie in an earlier block of its macroblock or in a marked neighbour: by Table 6-3, case by case. For every cut. Assumes nothing.
-use mathlib.Core.Path.{_≡_, refl, sym, ap, subst, _∙_}
+use mathlib.Core.Path.{_≡_, sym, ap, subst, _∙_}
 use mathlib.Core.Logic.{_⊎_, inl, inr}
-use mathlib.Core.Bool.{Bool, true, false, cond, _&&_}
+use mathlib.Core.Bool.{Bool}
 use Prim.Native.Nat.{ℕ, zero, suc, _+_, _*_, _-_, _/_, _<_, _≤_}
 use native.Mathlib.Nat.{suc-mul, mul-le-mul-right, not-suc-le-zero, lt-div-mul-add, div-div-eq-div-mul, mul-pos}
 use native.Mathlib.Omega.{arith}
-use borrow.Author.Tests.{eqb-true, eqb-false, leb-true, leb-false, ltb-true}
 use lib.Arith.{digits-div, digits-mod}
-use lib.Dec.{T, eqb, ltb, leb}
+use lib.Dec.{T}
 use Rattle.laws.proofs.Tests.{T-true}
 use Rattle.basics.specs.Nnz.{blkIdx}
 use Rattle.maps.specs.Neighbours.{Side, besideX, besideY}
 use Rattle.cut.specs.Cut.{scanX, scanY, holderAt, nextX, nextY, heldBy, isThere, squareSides}
 use Rattle.maps.specs.Neighbours.Side.{A, B, C, D}
-use Rattle.cut.specs.Cut.Holder.{own, other, nobody}
 use Rattle.cut.specs.inner.Blocks.{Scan}
+use Rattle.cut.proofs.Holders.{by-holder}
 use Rattle.macroblock.specs.Square.{placeAt, placeOf}
 use Rattle.macroblock.specs.inner.Blocks.{SidesIn}
 use Rattle.macroblock.proofs.Places.{At, at-of}
@@ -103,35 +102,24 @@ module _ (q m s x y : ℕ) (marks : Side → Bool) (k : ℕ) (some : 0 < q) (S :
         inl (n, b, at-of q (placeOf m (placeAt s y x) n) (R * s + E) (rw (digits-div R w) ey) (rw (digits-mod R w) ex))
 
     held-at : T (heldBy marks (holderAt m k i j)) → Held (R * s + E)
-    held-at = go (eqb j 0) (eqb i 0) (leb i m) (ltb (blkIdx (i - 1) (j - 1)) k) refl refl refl refl
-      where
-        go : (b₁ b₂ b₃ b₄ : Bool) → eqb j 0 ≡ b₁ → eqb i 0 ≡ b₂ → leb i m ≡ b₃ → ltb (blkIdx (i - 1) (j - 1)) k ≡ b₄
-            → T (heldBy marks (cond b₁ (cond b₂ (other D) (cond b₃ (other B) (other C))) (cond b₂ (other A) (cond (b₃ && b₄) own nobody)))) → Held (R * s + E)
-        go true true b₃ b₄ e₁ e₂ e₃ e₄ t =
-            let h = N .on-corner (T-true (marks D) t) in
-            let z₁ = eqb-true j 0 e₁ in let z₂ = eqb-true i 0 e₂ in
-            let p₁ = mul-pos (h .0) (S .some) in let p₂ = mul-pos (h .1) (S .some) in
-            beyond D t (omega arith) (omega arith) (narrower x (q * m) s wide) (before m y j (S .some) (h .0) z₁) (before m x i (S .some) (h .1) z₂)
-        go true false true b₄ e₁ e₂ e₃ e₄ t =
-            let h = N .on-above (T-true (marks B) t) in
-            let z₁ = eqb-true j 0 e₁ in let z₂ = eqb-false i 0 e₂ in let z₃ = leb-true i m e₃ in
-            let p₁ = mul-pos h (S .some) in
-            beyond B t (omega arith) (omega arith) wide (before m y j (S .some) h z₁) (inside m x i (omega arith) z₃)
-        go true false false b₄ e₁ e₂ e₃ e₄ t =
-            let h = N .on-above-right (T-true (marks C) t) in
-            let z₁ = eqb-true j 0 e₁ in let z₃ = leb-false i m e₃ in
-            let p₁ = mul-pos (h .0) (S .some) in
-            beyond C t (omega arith) (omega arith) (omega (arith, h .1)) (before m y j (S .some) (h .0) z₁) (after m x i (S .some) (omega arith))
-        go false true b₃ b₄ e₁ e₂ e₃ e₄ t =
-            let h = N .on-left (T-true (marks A) t) in
-            let z₁ = eqb-false j 0 e₁ in let z₂ = eqb-true i 0 e₂ in
-            let p₂ = mul-pos h (S .some) in
-            beyond A t (omega arith) (omega arith) (narrower x (q * m) s wide) (inside m y j (omega arith) hj) (before m x i (S .some) h z₂)
-        go false false true true e₁ e₂ e₃ e₄ t =
-            let z₁ = eqb-false j 0 e₁ in let z₂ = eqb-false i 0 e₂ in
-            earlier (omega arith) (leb-true i m e₃) (omega arith) (ltb-true (blkIdx (i - 1) (j - 1)) k e₄)
-        go false false true false e₁ e₂ e₃ e₄ t = absurd t
-        go false false false b₄ e₁ e₂ e₃ e₄ t = absurd t
+    held-at = by-holder m k i j marks
+        (λ zi zj t.
+        let h = N .on-corner (T-true (marks D) t) in
+        let p₁ = mul-pos (h .0) (S .some) in let p₂ = mul-pos (h .1) (S .some) in
+        beyond D t (omega arith) (omega arith) (narrower x (q * m) s wide) (before m y j (S .some) (h .0) zj) (before m x i (S .some) (h .1) zi))
+        (λ pi li zj t.
+        let h = N .on-above (T-true (marks B) t) in
+        let p₁ = mul-pos h (S .some) in
+        beyond B t (omega arith) (omega arith) wide (before m y j (S .some) h zj) (inside m x i pi li))
+        (λ gi zj t.
+        let h = N .on-above-right (T-true (marks C) t) in
+        let p₁ = mul-pos (h .0) (S .some) in
+        beyond C t (omega arith) (omega arith) (omega (arith, h .1)) (before m y j (S .some) (h .0) zj) (after m x i (S .some) (omega arith)))
+        (λ zi pj t.
+        let h = N .on-left (T-true (marks A) t) in
+        let p₂ = mul-pos h (S .some) in
+        beyond A t (omega arith) (omega arith) (narrower x (q * m) s wide) (inside m y j pj hj) (before m x i (S .some) h zi))
+        earlier
 
   -- where the next block stands
   next-x : (d : Side) → nextX (scanX k) d ≤ m + 1

@@ -1,24 +1,21 @@
 -- A macroblock's square, rebuilt block by block, is local: its blocks are the parts of a step, each of which reads earlier ones and marked neighbours only.
 -- For every cut and every rule. Assumes nothing.
-use mathlib.Core.Path.{_≡_, sym, ap, ap₂, _∙_, subst}
+use mathlib.Core.Path.{_≡_, sym, ap, ap₂, _∙_}
 use mathlib.Core.Logic.{inl, inr}
-use mathlib.Core.Bool.{Bool, true, false, cond}
+use mathlib.Core.Bool.{Bool}
 use mathlib.Core.List.{List}
-use Prim.Native.Nat.{ℕ, _+_, _*_, _-_, _/_, _%_, _<_, _≤_, min}
+use Prim.Native.Nat.{ℕ, _+_, _*_, _-_, _/_, _%_, _<_, _≤_}
 use native.Mathlib.Nat.{mod-lt, div-add-mod', div-div-eq-div-mul, mul-le-mul-right}
-use native.Mathlib.Decide.{decLt}
 use native.Mathlib.Omega.{arith}
 use lib.Arith.{digits-div}
 use lib.Dec.{T}
 use lib.ListN.{getD, length}
 use Rattle.laws.proofs.Patches.{length-patch, patch-other, patch-here}
 use Rattle.laws.proofs.Steps.{steps-length}
-use Rattle.laws.proofs.Tables.{table-same}
-use Rattle.laws.proofs.Tests.{T-true, where-same}
+use Rattle.laws.proofs.Tests.{T-true}
 use Rattle.order.specs.Order.{Alike}
 use Rattle.order.specs.Parts.{Parts}
 use Rattle.order.proofs.Parts.{parts-writes, parts-reads}
-use Rattle.basics.specs.Near.{near}
 use Rattle.basics.specs.Nnz.{blkIdx}
 use Rattle.maps.specs.Neighbours.{Side, besideX, besideY}
 use Rattle.macroblock.specs.declared.place.Place.{Place}
@@ -26,9 +23,10 @@ use Rattle.cut.specs.Cut.{Cut, blocks, scanX, scanY, isThere, sidesOf, squareSi
 use Rattle.maps.specs.Neighbours.Side.{A, B, C, D}
 use Rattle.cut.specs.inner.Blocks.{Scan}
 use Rattle.macroblock.specs.Local.{Local}
-use Rattle.macroblock.specs.Square.{inBlock, placeAt, placeOf, aboveOf, leftOf, cornerOf, Rule, partPlace, partNear, part, allParts}
+use Rattle.macroblock.specs.Square.{inBlock, placeAt, placeOf, Rule, partPlace, partNear, part, allParts}
 use Rattle.macroblock.specs.inner.Blocks.{BlockIn, StandsIn}
 use Rattle.macroblock.proofs.Held.{rowAt, columnAt, Held, held}
+use Rattle.macroblock.proofs.Neighbourhood.{near-same}
 use Rattle.macroblock.proofs.Places.{At, at-of, at-row, at-column, place-is}
 
 -- ---- the blocks of side q, m across, are apart, lie in the square at p, and cover it
@@ -97,9 +95,6 @@ module _ (c : Cut) (rule : Rule) (n s x y : ℕ) (marks : Side → Bool) (S : Sc
 
   -- over two planes that agree outside and on the earlier blocks, a block has the same neighbourhood
   module _ (k : ℕ) (hk : k < m * m) (p p′ : List ℕ) (e : Alike sampleIn Outside p p′) (f : (j : ℕ) → j < k → Alike sampleIn (InPart q m (placeAt s y x) S j) p p′) where
-    abbrev P : Place
-    P = partPlace c rule s x y marks k
-
     abbrev Y : ℕ
     Y = y * c .across + scanY k
 
@@ -119,33 +114,8 @@ module _ (c : Cut) (rule : Rule) (n s x y : ℕ) (marks : Side → Bool) (S : Sc
         go (inl (j, h, u)) = f j h i u
         go (inr (b, v, u)) = e i (b, v, u)
 
-    above-look : (t : ℕ) → t < c .wide → T (isThere m marks k B) → Same ((Y * q - 1) * s + (Z * q + min t (cond (isThere m marks k C) (2 * q - 1) (q - 1))))
-    above-look t ht v = go (isThere m marks k C) (look C)
-      where
-        go : (b : Bool) → ((t : ℕ) → t < q → T b → Same ((Y * q - 1) * s + ((Z + 1) * q + t))) → Same ((Y * q - 1) * s + (Z * q + min t (cond b (2 * q - 1) (q - 1))))
-        go false g = look B (min t (q - 1)) (omega arith) v
-        go true g = far (decLt t q)
-          where
-            far : Dec (t < q) → Same ((Y * q - 1) * s + (Z * q + min t (2 * q - 1)))
-            far (yes l) = look B (min t (2 * q - 1)) (omega arith) v
-            far (no l) =
-                let i : (Z + 1) * q + (t - q) ≡ Z * q + min t (2 * q - 1) = omega arith in
-                subst (λ z. Same ((Y * q - 1) * s + z)) i (g (t - q) (omega arith) tt)
-
-    above-same : aboveOf q P p (sidesOf m marks k) (c .wide) ≡ aboveOf q P p′ (sidesOf m marks k) (c .wide)
-    unfolding aboveOf
-    above-same = table-same (c .wide) _ _ (λ t h. where-same (isThere m marks k B) _ _ 0 (above-look t h))
-
-    left-same : leftOf q P p (sidesOf m marks k) ≡ leftOf q P p′ (sidesOf m marks k)
-    unfolding leftOf
-    left-same = table-same q _ _ (λ t h. where-same (isThere m marks k A) _ _ 0 (look A t h))
-
-    corner-same : cornerOf q P p (sidesOf m marks k) ≡ cornerOf q P p′ (sidesOf m marks k)
-    unfolding cornerOf
-    corner-same = where-same (isThere m marks k D) _ _ 0 (look D 0 some)
-
-    near-same : partNear c rule s x y marks k p ≡ partNear c rule s x y marks k p′
-    near-same = λ i. near (above-same i) (left-same i) (corner-same i)
+    near-alike : partNear c rule s x y marks k p ≡ partNear c rule s x y marks k p′
+    near-alike = near-same q (c .wide) some reach (partPlace c rule s x y marks k) (partPlace c rule s x y marks k) (isThere m marks k) p p′ look
 
   -- what a block leaves at a place of its own
   pub put-at : (k : ℕ) (p : List ℕ) (i : ℕ) → k < m * m → length p ≡ n → InPart q m (placeAt s y x) S k i
@@ -166,7 +136,7 @@ module _ (c : Cut) (rule : Rule) (n s x y : ℕ) (marks : Side → Bool) (S : Sc
     writes = λ k p i hk o out. patch-other (inBlock q s (y * m + scanY k) (x * m + scanX k)) _ p i out;
     reads = λ k p p′ hk o o′ e f i t.
         put-at k p i hk o t
-        ∙ ap (λ z. rule k (sidesOf m marks k) z (i % s % q) (i / s % q)) (near-same k hk p p′ e f)
+        ∙ ap (λ z. rule k (sidesOf m marks k) z (i % s % q) (i / s % q)) (near-alike k hk p p′ e f)
         ∙ sym (put-at k p′ i hk o′ t);
   }
 

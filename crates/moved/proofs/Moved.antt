@@ -1,31 +1,28 @@
 -- A square is rebuilt alike elsewhere: block by block, what lies beside a block is an earlier block or touches the square, and is the same at both places.
 -- For every cut and every rule. Assumes nothing.
-use mathlib.Core.Path.{_≡_, refl, sym, ap, ap₂, _∙_}
-use mathlib.Core.Bool.{Bool, true, false, cond, _&&_}
+use mathlib.Core.Path.{_≡_, sym, ap, ap₂, _∙_}
+use mathlib.Core.Bool.{Bool}
 use mathlib.Core.List.{List}
-use Prim.Native.Nat.{ℕ, zero, suc, _+_, _*_, _-_, _/_, _%_, _<_, _≤_, min}
+use Prim.Native.Nat.{ℕ, zero, suc, _+_, _*_, _-_, _/_, _%_, _<_, _≤_}
 use native.Mathlib.Nat.{le-refl, mod-lt, div-add-mod', add-mul, not-suc-le-zero, le-of-suc-le}
-use native.Mathlib.Decide.{decLt, ℕ-discrete}
+use native.Mathlib.Decide.{ℕ-discrete}
 use native.Mathlib.Omega.{arith}
-use borrow.Author.Tests.{eqb-true, eqb-false, leb-true, leb-false, ltb-true}
-use lib.Dec.{T, eqb, ltb, leb}
+use lib.Dec.{T}
 use lib.ListN.{getD, length}
 use Rattle.laws.specs.Steps.{upTo}
-use Rattle.laws.proofs.Tables.{table-same}
-use Rattle.laws.proofs.Tests.{where-same}
-use Rattle.basics.specs.Near.{near}
 use Rattle.basics.specs.Nnz.{blkIdx}
 use Rattle.maps.specs.Neighbours.{Side}
 use Rattle.maps.specs.Neighbours.Side.{A, B, C, D}
 use Rattle.cut.specs.Cut.{Cut, four, eight, whole, cutFor, scanX, scanY, holderAt, nextX, nextY, heldBy, isThere, sidesOf, squareSides}
-use Rattle.cut.specs.Cut.Holder.{own, other, nobody}
 use Rattle.cut.specs.inner.Blocks.{Scan}
+use Rattle.cut.proofs.Holders.{by-holder}
 use Rattle.cut.proofs.Scan.{scan-1, scan-2, scan-4}
 use Rattle.macroblock.specs.Kinds.{lumaRule, chromaRule}
-use Rattle.macroblock.specs.Square.{placeAt, aboveOf, leftOf, cornerOf, Rule, partPlace, partNear, allParts}
+use Rattle.macroblock.specs.Square.{placeAt, Rule, partPlace, partNear, allParts}
 use Rattle.macroblock.specs.declared.Record.{Record}
 use Rattle.macroblock.specs.inner.Blocks.{StandsIn}
 use Rattle.macroblock.proofs.Held.{rowAt, columnAt}
+use Rattle.macroblock.proofs.Neighbourhood.{near-same}
 use Rattle.macroblock.proofs.Rooms.{room-stands}
 use Rattle.moved.specs.Moved.{Site, SameAround, HasRoom, SameLeft, Moved}
 use Rattle.moved.proofs.Framed.{columnIn, rowIn, line, whole-mul, row-line, column-line, first-line, inner-line, block-line, next-line, line-in, line-of, withFirst, touch-kept, indexOf, other-put, own-put}
@@ -93,29 +90,14 @@ module _ (c : Cut) (rule : Rule) (marks : Side → Bool) (S : Scan (c .across)) 
           (alike n r e b hr he)
 
       held-same : T (heldBy marks (holderAt m k i j)) → Known
-      held-same = go (eqb j 0) (eqb i 0) (leb i m) (ltb (blkIdx (i - 1) (j - 1)) k) refl refl refl refl
-        where
-          pos : 0 < w
-          pos = at-u .block .some
-
-          go : (b₁ b₂ b₃ b₄ : Bool) → eqb j 0 ≡ b₁ → eqb i 0 ≡ b₂ → leb i m ≡ b₃ → ltb (blkIdx (i - 1) (j - 1)) k ≡ b₄
-              → T (heldBy marks (cond b₁ (cond b₂ (other D) (cond b₃ (other B) (other C))) (cond b₂ (other A) (cond (b₃ && b₄) own nobody)))) → Known
-          go true true b₃ b₄ e₁ e₂ e₃ e₄ o = beyond D 0 pos o (before-row (eqb-true j 0 e₁)) (before-column (eqb-true i 0 e₂))
-          go true false true b₄ e₁ e₂ e₃ e₄ o =
-              let z = eqb-false i 0 e₂ in let l = leb-true i m e₃ in
-              beyond B ((i - 1) * q + e) (line-in q m (i - 1) e (omega arith) he) o (before-row (eqb-true j 0 e₁)) (λ a. inner-line q m (a .x) i e (omega arith))
-          go true false false b₄ e₁ e₂ e₃ e₄ o =
-              let l = leb-false i m e₃ in
-              let z : i ≡ m + 1 = omega arith in
-              beyond C e (omega (arith, line-in q m 0 e (S .some) he)) o (before-row (eqb-true j 0 e₁)) (λ a. ap (λ n. line q m (a .x) n e) z ∙ next-line q m (a .x) e)
-          go false true b₃ b₄ e₁ e₂ e₃ e₄ o =
-              let z = eqb-false j 0 e₁ in
-              beyond A ((j - 1) * q + r) (line-in q m (j - 1) r (omega arith) hr) o (λ a. inner-line q m (a .y) j r (omega arith)) (before-column (eqb-true i 0 e₂))
-          go false false true true e₁ e₂ e₃ e₄ o =
-              let z₁ = eqb-false j 0 e₁ in let z₂ = eqb-false i 0 e₂ in
-              earlier (omega arith) (leb-true i m e₃) (omega arith) (ltb-true (blkIdx (i - 1) (j - 1)) k e₄)
-          go false false true false e₁ e₂ e₃ e₄ o = absurd o
-          go false false false b₄ e₁ e₂ e₃ e₄ o = absurd o
+      held-same = by-holder m k i j marks
+          (λ zi zj o. beyond D 0 (at-u .block .some) o (before-row zj) (before-column zi))
+          (λ pi li zj o. beyond B ((i - 1) * q + e) (line-in q m (i - 1) e (omega arith) he) o (before-row zj) (λ a. inner-line q m (a .x) i e pi))
+          (λ gi zj o.
+          let z : i ≡ m + 1 = omega arith in
+          beyond C e (omega (arith, line-in q m 0 e (S .some) he)) o (before-row zj) (λ a. ap (λ n. line q m (a .x) n e) z ∙ next-line q m (a .x) e))
+          (λ zi pj o. beyond A ((j - 1) * q + r) (line-in q m (j - 1) r (omega arith) hr) o (λ a. inner-line q m (a .y) j r pj) (before-column zi))
+          earlier
 
     -- sample t on a side that is there
     look : (d : Side) (t : ℕ) → t < q → T (isThere m marks k d) → Shows k (λ a. rowAt q (a .y * m + scanY k) d t) (λ a. columnAt q (a .x * m + scanX k) d t)
@@ -136,48 +118,10 @@ module _ (c : Cut) (rule : Rule) (marks : Side → Bool) (S : Scan (c .across)) 
         go C = held-same (scanX k + 2) (scanY k) t (q - 1) (omega (arith, x-lt)) (omega (arith, y-lt)) ht (omega arith) (λ z. omega arith) (λ z. omega arith)
         go D = held-same (scanX k) (scanY k) (q - 1) (q - 1) (omega (arith, x-lt)) (omega (arith, y-lt)) (omega arith) (omega arith) (λ z. omega arith) (λ z. omega arith)
 
-    -- sample z above the block and above the next one
-    above-look : (z : ℕ) → z < 2 * q → T (isThere m marks k B) → (q ≤ z → T (isThere m marks k C))
-        → Shows k (λ a. (a .y * m + scanY k) * q - 1) (λ a. (a .x * m + scanX k) * q + z)
-    above-look z hz b g = go (decLt z q)
-      where
-        go : Dec (z < q) → Shows k (λ a. (a .y * m + scanY k) * q - 1) (λ a. (a .x * m + scanX k) * q + z)
-        go (yes l) = look B z l b
-        go (no l) =
-            let e : (a : Site) → (a .x * m + scanX k) * q + z ≡ (a .x * m + scanX k + 1) * q + (z - q) = λ a. omega (arith, add-mul (a .x * m + scanX k) 1 q) in
-            reworded k {row = λ a. (a .y * m + scanY k) * q - 1} (λ a. refl) e (look C (z - q) (omega arith) (g (omega arith)))
-
-    -- the last one that is there is repeated
-    last-there : (b : Bool) (t : ℕ) → t < c .wide → (min t (cond b (2 * q - 1) (q - 1)) < 2 * q) × (q ≤ min t (cond b (2 * q - 1) (q - 1)) → T b)
-    last-there true t h = (omega arith, λ _. tt)
-    last-there false t h = (omega arith, λ l. absurd (omega arith))
-
-    abbrev aboveAt : Site → List ℕ → List ℕ
-    aboveAt a plane = aboveOf q (partPlace c rule (a .stride) (a .x) (a .y) marks k) plane (sidesOf m marks k) (c .wide)
-
-    above-same : aboveAt u (one k) ≡ aboveAt v (two k)
-    unfolding aboveOf
-    above-same =
-        table-same (c .wide) _ _ (λ t h.
-        let l = last-there (isThere m marks k C) t h in
-        where-same (isThere m marks k B) _ _ 0 (λ b. above-look (min t (cond (isThere m marks k C) (2 * q - 1) (q - 1))) (l .0) b (l .1)))
-
-    abbrev leftAt : Site → List ℕ → List ℕ
-    leftAt a plane = leftOf q (partPlace c rule (a .stride) (a .x) (a .y) marks k) plane (sidesOf m marks k)
-
-    left-same : leftAt u (one k) ≡ leftAt v (two k)
-    unfolding leftOf
-    left-same = table-same q _ _ (λ t h. where-same (isThere m marks k A) _ _ 0 (look A t h))
-
-    abbrev cornerAt : Site → List ℕ → ℕ
-    cornerAt a plane = cornerOf q (partPlace c rule (a .stride) (a .x) (a .y) marks k) plane (sidesOf m marks k)
-
-    corner-same : cornerAt u (one k) ≡ cornerAt v (two k)
-    unfolding cornerOf
-    corner-same = where-same (isThere m marks k D) _ _ 0 (look D 0 some)
-
-    near-same : partNear c rule (u .stride) (u .x) (u .y) marks k (one k) ≡ partNear c rule (v .stride) (v .x) (v .y) marks k (two k)
-    near-same = λ i. near (above-same i) (left-same i) (corner-same i)
+    near-alike : partNear c rule (u .stride) (u .x) (u .y) marks k (one k) ≡ partNear c rule (v .stride) (v .x) (v .y) marks k (two k)
+    near-alike =
+        near-same q (c .wide) some reach (partPlace c rule (u .stride) (u .x) (u .y) marks k) (partPlace c rule (v .stride) (v .x) (v .y) marks k)
+        (isThere m marks k) (one k) (two k) look
 
   -- ---- all blocks, one after the other
   alike-all : (k : ℕ) → k ≤ m * m → BlocksAlike k
@@ -192,7 +136,7 @@ module _ (c : Cut) (rule : Rule) (marks : Side → Bool) (S : Scan (c .across)) 
       go ih (yes d) =
           ap (λ z. getD (one (suc k)) (indexOf c rule marks S some reach u at-u z r e) 0) d
           ∙ own-put c rule marks S some reach u at-u k r e h hr he
-          ∙ ap (λ z. rule k (sidesOf m marks k) z e r) (near-same k h ih)
+          ∙ ap (λ z. rule k (sidesOf m marks k) z e r) (near-alike k h ih)
           ∙ sym (own-put c rule marks S some reach v at-v k r e h hr he)
           ∙ sym (ap (λ z. getD (two (suc k)) (indexOf c rule marks S some reach v at-v z r e) 0) d)
       go ih (no d) =
