@@ -1,15 +1,18 @@
 -- A run of calls does what the permitted order of its taken calls does. Assumes nothing.
 use mathlib.Core.Path.{_≡_, refl, sym, ap, ap₂, subst, _∙_}
+use mathlib.Core.Logic.{inl, inr}
 use mathlib.Core.List.{List, [], _∷_, _++_, map}
-use Prim.Native.Nat.{ℕ, zero, suc, _<_}
+use Prim.Native.Nat.{ℕ, zero, suc, _<_, _≤_}
 use native.Mathlib.Omega.{arith}
 use lib.ListN.{length, set, replicate, length-set, length-replicate}
 use Rattle.laws.specs.Answer.{written}
 use Rattle.laws.specs.Steps.{upTo}
+use Rattle.order.specs.Lists.{Names}
 use Rattle.order.specs.Order.{Alike, Laws, Done, AllDone, Ready, First, build, marked, Permitted, undoneFrom, raster, ones}
 use Rattle.order.specs.Driver.{Driver, View, Started, Fair, after, play, answers, Carries, Spares, Offers}
 use Rattle.order.proofs.Settled.{done-still, untouched, ok-run}
 use Rattle.order.proofs.Count.{ones-set, ones-le, ones-none, full-done}
+use Rattle.order.proofs.Orders.{permitted-undone}
 use Rattle.order.proofs.Raster.{raster-permitted, length-raster}
 use Rattle.order.proofs.Undone.{undone-fills}
 use Rattle.order.proofs.AnyOrder.{done-agrees, any-order}
@@ -34,6 +37,15 @@ module _ {S C M : Type 0} {D : Driver S C} {U : View S M} {n : ℕ} {addr : C �
       go : (r : ℕ) → D .answer c s ≡ r → length (U .done (after D c s)) ≡ n
       go zero e = ap length (done-after c s e) ∙ length-set (U .done s) (addr c) 1 ∙ l
       go (suc r) e = ap (λ u. length (U .done u)) (after-is c s e) ∙ l
+
+  -- what is done stays done
+  pub done-kept : (cs : List C) (s : S) (a : ℕ) → length (U .done s) ≡ n → Done (U .done s) a → Done (U .done (play D cs s)) a
+  done-kept [] s a l d = d
+  done-kept (c ∷ cs) s a l d = done-kept cs (after D c s) a (long-after c s l) (go (D .answer c s) refl)
+    where
+      go : (r : ℕ) → D .answer c s ≡ r → Done (U .done (after D c s)) a
+      go zero e = subst (λ m. Done m a) (sym (done-after c s e)) (done-still (U .done s) (addr c) a (rw l (F .takes c s e l .0)) d)
+      go (suc r) e = subst (λ u. Done (U .done u) a) (sym (after-is c s e)) d
 
   module _ (step : ℕ → M → M) (N : ℕ → ℕ → Type 0) where
     -- a run and the order of the steps that it took
@@ -136,27 +148,32 @@ module _ {S C M : Type 0} {D : Driver S C} {U : View S M} {n : ℕ} {addr : C �
 
   -- ---- never stuck: whatever calls came before, a call with all that it needs is taken
   module _ {ok : M → Type 0} (K : Spares D U n addr ok) where
-    -- what every call keeps
+    -- what every call keeps: memory that can be worked on, a map of n bytes, and a count of at most n
     pub record Sound (s : S) : Type 0 where
       pub good : ok (U .memory s)
-      pub right : Counted s
+      pub long : length (U .done s) ≡ n
+      pub few : U .count s ≤ n
 
     sound-after : (c : C) (s : S) → Sound s → Sound (after D c s)
-    sound-after c s k = record { good = go (D .answer c s) refl; right = counted-after c s (k .right) }
+    sound-after c s k = record { good = good (D .answer c s) refl; long = long-after c s (k .long); few = few (D .answer c s) refl }
       where
-        go : (r : ℕ) → D .answer c s ≡ r → ok (U .memory (after D c s))
-        go zero e = subst (λ u. ok (U .memory u)) (sym (after-is c s e)) (K .spares c s e (k .good))
-        go (suc r) e = subst (λ u. ok (U .memory u)) (sym (after-is c s e)) (k .good)
+        good : (r : ℕ) → D .answer c s ≡ r → ok (U .memory (after D c s))
+        good zero e = subst (λ u. ok (U .memory u)) (sym (after-is c s e)) (K .spares c s e (k .good))
+        good (suc r) e = subst (λ u. ok (U .memory u)) (sym (after-is c s e)) (k .good)
+
+        few : (r : ℕ) → D .answer c s ≡ r → U .count (after D c s) ≤ n
+        few zero e = omega (arith, ap (U .count) (after-is c s e), F .counts c s e (k .long))
+        few (suc r) e = omega (arith, ap (U .count) (after-is c s e), k .few)
+
+    pub sound-play : (cs : List C) (s : S) → Sound s → Sound (play D cs s)
+    sound-play [] s k = k
+    sound-play (c ∷ cs) s k = sound-play cs (after D c s) (sound-after c s k)
 
     pub sound-run : (cs : List C) {s : S} → Started D U n addr s → ok (U .memory s) → Sound (play D cs s)
-    sound-run cs {s} st k = go cs s (record { good = k; right = counted-start st })
-      where
-        go : (cs : List C) (s : S) → Sound s → Sound (play D cs s)
-        go [] s k = k
-        go (c ∷ cs) s k = go cs (after D c s) (sound-after c s k)
+    sound-run cs {s} st k = sound-play cs s (record { good = k; long = long-start st; few = omega (arith, st .none) })
 
     pub taken-now : {N : ℕ → ℕ → Type 0} {a : ℕ} {c : C} (s : S) → Sound s → Offers D U n addr N ok a c → ¬ Done (U .done s) a → Ready N (U .done s) a → D .answer c s ≡ 0
-    taken-now s k o = o .accepted s (k .good) (k .right .long) (omega (arith, k .right .right, k .right .long, ones-le (U .done s)))
+    taken-now s k o = o .accepted s (k .good) (k .long) (k .few)
 
     module _ {N : ℕ → ℕ → Type 0} (earlier : (a b : ℕ) → a < n → N a b → b < a) where
       -- the first undone step is ready
@@ -164,30 +181,32 @@ module _ {S C M : Type 0} {D : Driver S C} {U : View S M} {n : ℕ} {addr : C �
       first-taken {a} s k o f = taken-now s k o (f .undone) (λ b w. f .below b (earlier a b (f .inside) w))
 
       module _ (offer : ℕ → C) where
-        -- the steps that a state leaves undone, each offered by a call with all that it needs
-        abbrev pub Offered : S → Type 0
-        Offered s = (a : ℕ) → a < n → ¬ Done (U .done s) a → Offers D U n addr N ok a (offer a)
-
-        -- a permitted order of them meets no refusal
+        -- a permitted order, each step offered by a call with all that it needs, meets no refusal
         abbrev pub Taken : List ℕ → S → Type 0
         Taken o s = (answers D (map offer o) s ≡ replicate (length o) 0) × (U .done (play D (map offer o) s) ≡ marked o (U .done s))
 
-        pub permitted-taken : (o : List ℕ) (s : S) → Sound s → Offered s → Permitted n N o (U .done s) → Taken o s
-        permitted-taken [] s k A t = (refl, refl)
-        permitted-taken (a ∷ o) s k A t =
-            let given = A a (t .0) (t .1) in
+        pub order-taken : (o : List ℕ) (s : S) → Sound s → ((a : ℕ) → Names o a → Offers D U n addr N ok a (offer a)) → Permitted n N o (U .done s) → Taken o s
+        order-taken [] s k A t = (refl, refl)
+        order-taken (a ∷ o) s k A t =
+            let given = A a (inl refl) in
             let e = taken-now s k given (t .1) (t .2) in
             let m = done-after (offer a) s e ∙ ap (λ b. set (U .done s) b 1) (given .at-step) in
-            let still : Offered (after D (offer a) s) = λ b h u. A b h (λ d. u (subst (λ v. Done v b) (sym m) (done-still (U .done s) a b (rw (k .right .long) (t .0)) d))) in
-            let more = permitted-taken o (after D (offer a) s) (sound-after (offer a) s k) still (subst (Permitted n N o) (sym m) (t .3)) in
+            let more = order-taken o (after D (offer a) s) (sound-after (offer a) s k) (λ b h. A b (inr h)) (subst (Permitted n N o) (sym m) (t .3)) in
             (ap₂ (λ x xs. x ∷ xs) e (more .0), more .1 ∙ ap (marked o) m)
+
+        -- the steps that a state leaves undone, each offered by such a call
+        abbrev pub Offered : S → Type 0
+        Offered s = (a : ℕ) → a < n → ¬ Done (U .done s) a → Offers D U n addr N ok a (offer a)
+
+        pub permitted-taken : (o : List ℕ) (s : S) → Sound s → Offered s → Permitted n N o (U .done s) → Taken o s
+        permitted-taken o s k A t = order-taken o s k (λ a m. let p = permitted-undone n N o (U .done s) (k .long) t a m in A a (p .0) (p .1)) t
 
         -- so what is undone, by address, meets none, and then all is done
         pub rest-taken : (s : S) → Sound s → Offered s → Taken (undoneFrom 0 (U .done s)) s
-        rest-taken s k A = permitted-taken (undoneFrom 0 (U .done s)) s k A (undone-fills n N earlier (U .done s) (k .right .long) .0)
+        rest-taken s k A = permitted-taken (undoneFrom 0 (U .done s)) s k A (undone-fills n N earlier (U .done s) (k .long) .0)
 
         pub rest-full : (s : S) → Sound s → Offered s → AllDone n (U .done (play D (map offer (undoneFrom 0 (U .done s))) s))
-        rest-full s k A a h = subst (λ d. Done d a) (sym (rest-taken s k A .1)) (undone-fills n N earlier (U .done s) (k .right .long) .1 a h)
+        rest-full s k A a h = subst (λ d. Done d a) (sym (rest-taken s k A .1)) (undone-fills n N earlier (U .done s) (k .long) .1 a h)
 
         -- from the start, that is the raster order
         pub raster-taken : {s : S} → Started D U n addr s → ok (U .memory s) → Offered s → answers D (map offer (raster n)) s ≡ replicate n 0

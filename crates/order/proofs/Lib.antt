@@ -2,8 +2,10 @@
 pub mod AnyOrder
 pub mod Count
 pub mod Driver
+pub mod Lists
 pub mod Orders
 pub mod Parts
+pub mod Permuted
 pub mod Raster
 pub mod Settled
 pub mod Undone

@@ -1,9 +1,12 @@
--- Orders joined, and the map that they leave. Assumes nothing.
-use mathlib.Core.Path.{_≡_, refl, _∙_}
+-- Orders joined, the map that they leave, and what is undone before them. Assumes nothing.
+use mathlib.Core.Path.{_≡_, refl, sym, subst, _∙_}
+use mathlib.Core.Logic.{inl, inr}
 use mathlib.Core.List.{List, [], _∷_, _++_}
-use Prim.Native.Nat.{ℕ}
+use Prim.Native.Nat.{ℕ, _<_}
 use lib.ListN.{set, length, length-set}
-use Rattle.order.specs.Order.{build, marked, Permitted}
+use Rattle.order.specs.Lists.{Names}
+use Rattle.order.specs.Order.{Done, build, marked, Permitted}
+use Rattle.order.proofs.Settled.{done-still}
 
 pub permitted-append : (n : ℕ) (N : ℕ → ℕ → Type 0) (o u d : List ℕ) → Permitted n N o d → Permitted n N u (marked o d) → Permitted n N (o ++ u) d
 permitted-append n N [] u d t v = v
@@ -20,3 +23,10 @@ build-append step (a ∷ o) u p = build-append step o u (step a p)
 pub length-marked : (o d : List ℕ) → length (marked o d) ≡ length d
 length-marked [] d = refl
 length-marked (a ∷ o) d = length-marked o (set d a 1) ∙ length-set d a 1
+
+-- the steps of a permitted order are undone before it
+pub permitted-undone : (n : ℕ) (N : ℕ → ℕ → Type 0) (o d : List ℕ) → length d ≡ n → Permitted n N o d → (a : ℕ) → Names o a → (a < n) × ¬ Done d a
+permitted-undone n N (b ∷ o) d len t a (inl e) = subst (λ c. (c < n) × ¬ Done d c) (sym e) (t .0, t .1)
+permitted-undone n N (b ∷ o) d len t a (inr m) =
+    let p = permitted-undone n N o (set d b 1) (length-set d b 1 ∙ len) (t .3) a m in
+    (p .0, λ e. p .1 (done-still d b a (rw len (t .0)) e))

@@ -27,7 +27,7 @@ done-before d a b q e = sym (getD-set-other d a b 1 0 q) ∙ e
 module _ {M I X : Type 0} {at : M → I → X} {ok : M → Type 0} {n : ℕ} {R : ℕ → I → Type 0} {N : ℕ → ℕ → Type 0} {step : ℕ → M → M}
     (L : Laws at ok n R N step) where
   -- a step done elsewhere leaves a region as it was
-  elsewhere : (a b : ℕ) (p : M) → a < n → b < n → ok p → b ≢ a → Alike at (R b) p (step a p)
+  pub elsewhere : (a b : ℕ) (p : M) → a < n → b < n → ok p → b ≢ a → Alike at (R b) p (step a p)
   elsewhere a b p ha hb k q i r = sym (L .writes a p i ha k (λ s. q (L .apart b a i hb ha r s)))
 
   -- taken again on what it led to, a step writes the same again

@@ -1,4 +1,5 @@
--- Steps, drivers that are offered steps by calls, and steps made of parts.
+-- Steps, lists of them, drivers that are offered steps by calls, and steps made of parts.
 pub mod Driver
+pub mod Lists
 pub mod Order
 pub mod Parts

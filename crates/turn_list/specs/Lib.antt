@@ -1,0 +1,4 @@
+-- The turn list.
+pub mod Agreed
+pub mod Turn
+pub mod inner

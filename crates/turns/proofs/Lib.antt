@@ -1,0 +1,3 @@
+-- The law about turns is `one-turn`.
+pub mod OneTurn
+mod Begun

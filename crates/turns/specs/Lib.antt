@@ -1,0 +1,2 @@
+-- What comes of a turn.
+pub mod OneTurn
