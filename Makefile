@@ -5,7 +5,7 @@
 # make symbols         the archive has the header's functions, no state, and needs nothing but memory copied and filled
 # make languages       in seconds and without the library: header, signatures, layout and examples of the other languages
 # make rust-test       the Rust crate's tests
-# make examples        the C example and the Rust example, linked and run
+# make examples        the C example and the Rust examples, linked and run
 # make diff            the port against the Rust it was ported from, call by call
 # make install         header, archive and pkg-config file below PREFIX (/usr/local); DESTDIR is put before it
 #
@@ -67,6 +67,7 @@ examples: $(ARCHIVE)
 	$(CC) -std=c99 $(WARNINGS) -O2 -Iinclude examples/rebuild.c $(ARCHIVE) -o build/examples/rebuild
 	build/examples/rebuild
 	$(RUN) --example workers
+	$(RUN) --example night 5
 
 diff: $(ARCHIVE)
 	$(RUN) -p harness --bin diff

@@ -1,7 +1,7 @@
 /* Jiwarbend: H.264 intra pictures (8-bit, 4:2:0, progressive), rebuilt macroblock by macroblock and in any order.
 
    Every function takes any numbers and lists of any length, and ends. One that can refuse answers 0, or the first number that applies in the order
-   1, 2, 3, 4, 6, 7, 5, 8:
+   1, 2, 3, 4, 6, 7, 5, 8, 9:
 
      1  the picture's width is not 1..120 macroblocks, or its height not 1..68
      2  a stride, plane, map, list or count breaks the rules below, or a block's rows leave its buffer
@@ -12,6 +12,7 @@
      7  a used mode needs samples that are not available where it stands
      8  a number lies outside -32768..32767, or the inverse transform of a block of coefficients leaves the range that the standard demands of 8-bit
         samples: a value that 8.5.12.2 or 8.5.13.2 names lies outside -32768..32767, or above 32735 after the columns
+     9  the row counts or the turn list have another length than the picture has rows, or a row count disagrees with the done map: count anew
 
    A refused call writes nothing. Later versions may give further numbers: take an unknown one as a refusal.
 
@@ -21,7 +22,9 @@
 
    Threads. One call at a time for a picture; different pictures side by side. A call reads and writes what it is lent and nothing else, takes
    no lock, and expects that nobody else writes what it is lent or reads what it writes before it has returned. Two threads that call
-   for one picture at the same time can leave its count wrong: give the picture a lock, or to one thread.
+   for one picture at the same time can leave its count wrong: give the picture a lock, or to one thread. jiwarbend_count_rows and jiwarbend_turn only
+   read the maps: the one writes rows, the other list and how_many. So while no thread starts or rebuilds a picture, several may ask for its turn, each
+   with rows, list and how_many of its own.
 
    Left out. Deblocking (a stream with the loop filter on gives other samples until it is applied), I_PCM macroblocks, entropy decoding,
    dequantisation, constrained intra prediction, field coding, prediction between pictures, other sample depths and chroma formats.
@@ -34,8 +37,8 @@
 #define JIWARBEND_H
 
 #define JIWARBEND_VERSION_MAJOR 0
-#define JIWARBEND_VERSION_MINOR 5
-#define JIWARBEND_VERSION_PATCH 2
+#define JIWARBEND_VERSION_MINOR 6
+#define JIWARBEND_VERSION_PATCH 0
 
 #include <stdbool.h>
 #include <stddef.h>
@@ -54,7 +57,8 @@ enum jiwarbend_answer {
     JIWARBEND_NOT_READY = 5,
     JIWARBEND_UNKNOWN = 6,
     JIWARBEND_NOT_PERMITTED = 7,
-    JIWARBEND_RANGE = 8
+    JIWARBEND_RANGE = 8,
+    JIWARBEND_ROWS = 9
 };
 
 /* The kinds of macroblocks, and the modes of luma 4x4 and 8x8, luma 16x16 and chroma blocks. */
@@ -122,6 +126,28 @@ uint32_t jiwarbend_rebuild(uint32_t w, uint32_t h, uint32_t x, uint32_t y,
     uint8_t *luma, size_t luma_len, size_t luma_stride, uint8_t *cb, size_t cb_len, size_t cb_stride, uint8_t *cr, size_t cr_len, size_t cr_stride,
     uint8_t *done, size_t done_len, const uint16_t *slices, size_t slices_len, struct jiwarbend_progress *progress,
     uint8_t kind, const uint8_t *modes, size_t modes_len, uint8_t chroma_mode, const int32_t *numbers, size_t numbers_len);
+
+/* Brings the row counts of a picture into agreement with its done map: rows[y] becomes the number of macroblocks of row y that are done from the left
+   without a gap, w where the whole row is done. The map is only read. rows has h numbers, which may hold anything before. Answers 0, 1, 2 for the
+   map's length, or 9 for the length of rows. jiwarbend_rebuild neither takes nor reads the counts: count anew after calls, and before asking for a turn. */
+uint32_t jiwarbend_count_rows(uint32_t w, uint32_t h, const uint8_t *done, size_t done_len, uint32_t *rows, size_t rows_len);
+
+/* Lists the macroblocks that idle cores may take next, a turn: of each row, from the top down, the leftmost undone macroblock if all its available
+   neighbours are done: A to the left, B above, C above and to the right, D above and to the left. Their addresses, y * w + x, stand in the list from the
+   front on, and how_many is how many there are; the places beyond keep what they held. Maps and counts are only read. Answers 0, 1, 2 for the length of
+   a map, or 9 for the length of rows or list, which have h numbers each, or for a count that disagrees with the done map.
+
+   The macroblocks of a turn, offered with acceptable records and in any order, meet no refusal, and leave the same planes, done map and count and the
+   same next turn. Two of them are in different rows, and neither reads what the other writes. While a macroblock is undone a turn is never empty, so no
+   core stands still for good. After jiwarbend_count_rows the counts are never refused; a count one behind or one ahead always is.
+
+   So several cores can make the records of a turn side by side; the calls of jiwarbend_rebuild come one at a time, as for every picture. Nothing is
+   claimed: a macroblock stands in every turn until it is done, and one that is abandoned needs nothing taken back. A turn waits for all four neighbours,
+   since it sees no record; jiwarbend_rebuild may accept a macroblock earlier. It is shared by all slices: the later macroblocks of a row are not listed
+   while an earlier one of the row is undone, also one of another slice. Where a slice is lost for good, the first undone macroblock of each other slice,
+   by address, still never has to wait. */
+uint32_t jiwarbend_turn(uint32_t w, uint32_t h, const uint8_t *done, size_t done_len, const uint16_t *slices, size_t slices_len,
+    const uint32_t *rows, size_t rows_len, uint32_t *list, size_t list_len, uint32_t *how_many);
 
 /* ---- prediction of one block (clause 8.3)
 

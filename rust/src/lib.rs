@@ -30,6 +30,32 @@
 //! rebuilt as if it had never come, and none of them waits for it. [`Picture::is_slice_finished`] tells which slices are whole. The progress is the
 //! picture's: it counts the macroblocks of all slices.
 //!
+//! # Idle cores
+//!
+//! [`Picture::turn`] says what can be taken next: of each row the leftmost macroblock that is not done, if all its available neighbours are. The macroblocks
+//! of a turn, offered with acceptable records and in any order, meet no refusal and leave the same samples and the same next turn, and while one is
+//! not done a turn is never empty. So several cores can make the records of a turn side by side, none stands still while there is work, and one that
+//! abandons its macroblock leaves nothing to be taken back: the macroblock is listed until it is done. `examples/night.rs` has idle workers over forty
+//! pictures, which misbehave on purpose.
+//!
+//! ```
+//! use jiwarbend::{ChromaMode, Luma16x16Mode, Picture, Record, Refusal};
+//!
+//! let mut picture = Picture::new(3, 2)?;
+//! let record = Record::of_16x16(Luma16x16Mode::Dc, ChromaMode::Dc);
+//! let mut turns = Vec::new();
+//! while !picture.is_finished() {
+//!     let turn = picture.turn();
+//!     for &(x, y) in turn.iter().rev() {
+//!         picture.rebuild(x, y, &record)?;
+//!     }
+//!     turns.push(turn);
+//! }
+//! // The second row starts when the macroblock above and to the right of its first one is done.
+//! assert_eq!(turns, [vec![(0, 0)], vec![(1, 0)], vec![(2, 0), (0, 1)], vec![(1, 1)], vec![(2, 1)]]);
+//! # Ok::<(), Refusal>(())
+//! ```
+//!
 //! # Threads
 //!
 //! One call at a time for a picture; different pictures side by side. The library keeps no state of its own, takes no lock and makes no

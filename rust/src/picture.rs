@@ -236,6 +236,47 @@ impl<'a> Lent<'a> {
     pub fn progress(&self) -> Progress {
         *self.progress
     }
+
+    /// Brings row counts into agreement with the done map: each of the `h` numbers becomes how many macroblocks of its row are done from the left without
+    /// a gap. They may hold anything before, and no other call changes them.
+    ///
+    /// # Errors
+    ///
+    /// [`Refusal::Size`], [`Refusal::Room`] for the length of the done map, or [`Refusal::Rows`] unless there are `h` counts; nothing was changed.
+    pub fn count_rows(&self, rows: &mut [u32]) -> Result<(), Refusal> {
+        // SAFETY: pointers and lengths are slices', and what is written is borrowed apart from all else.
+        Refusal::check(unsafe {
+            sys::jiwarbend_count_rows(self.w, self.h, self.done.as_ptr(), self.done.len(), rows.as_mut_ptr(), rows.len())
+        })
+    }
+
+    /// Lists a turn by these row counts: of each row, from the top down, the leftmost undone macroblock if all its available neighbours are done. The
+    /// addresses, y * w + x, stand in the list from the front on, and their number is given back; the places beyond keep what they held.
+    ///
+    /// # Errors
+    ///
+    /// [`Refusal::Size`], [`Refusal::Room`] for the length of a map, or [`Refusal::Rows`] unless there are `h` counts that agree with the done map and `h`
+    /// places in the list; nothing was changed.
+    pub fn turn(&self, rows: &[u32], list: &mut [u32]) -> Result<usize, Refusal> {
+        let mut how_many = 0;
+        // SAFETY: pointers and lengths are slices', and what is written is borrowed apart from all else.
+        Refusal::check(unsafe {
+            sys::jiwarbend_turn(
+                self.w,
+                self.h,
+                self.done.as_ptr(),
+                self.done.len(),
+                self.slices.as_ptr(),
+                self.slices.len(),
+                rows.as_ptr(),
+                rows.len(),
+                list.as_mut_ptr(),
+                list.len(),
+                &mut how_many,
+            )
+        })?;
+        Ok(how_many as usize)
+    }
 }
 
 /// A picture that owns its planes and maps. It is started when it is made, and only its calls change it.
@@ -252,6 +293,7 @@ pub struct Picture {
     done: Vec<u8>,
     slices: Vec<u16>,
     progress: Progress,
+    rows: Vec<u32>,
 }
 
 impl Picture {
@@ -296,6 +338,7 @@ impl Picture {
             done: vec![0; columns * rows],
             slices,
             progress: Progress::new(),
+            rows: vec![0; rows],
         };
         picture.start();
         Ok(picture)
@@ -375,6 +418,30 @@ impl Picture {
     pub fn first_undone(&self) -> Option<(u32, u32)> {
         let address = self.done.iter().position(|&d| d != 1)? as u32;
         Some((address % self.w, address / self.w))
+    }
+
+    /// How many macroblocks of each row, from the top down, are done from the left without a gap: the width where a whole row is done. The picture keeps
+    /// these counts, and each time they are brought into agreement with what is done.
+    pub fn count_rows(&mut self) -> &[u32] {
+        let mut rows = std::mem::take(&mut self.rows);
+        self.lend().count_rows(&mut rows).expect("a picture has the memory of its size");
+        self.rows = rows;
+        &self.rows
+    }
+
+    /// The macroblocks that idle cores may take next, a turn: of each row, from the top down, the leftmost one that is not done if all its available
+    /// neighbours are, as column and row: none of them has to wait, in whatever order they are offered, and none reads what another one writes. It is
+    /// empty exactly when the picture is finished. A macroblock is listed until it is done: nothing is claimed, and nothing has to be taken back.
+    ///
+    /// The call sees no record, and so a turn waits for all four neighbours; [`Picture::rebuild`] may accept a macroblock earlier. All slices share it:
+    /// behind a macroblock that is not done none of its row is listed, also where it is of another slice. Where a slice is lost for good,
+    /// [`Picture::first_undone_in`] says where another one goes on.
+    pub fn turn(&mut self) -> Vec<(u32, u32)> {
+        self.count_rows();
+        let (rows, w) = (self.rows.clone(), self.w);
+        let mut list = vec![0; rows.len()];
+        let how_many = self.lend().turn(&rows, &mut list).expect("the counts have just been made");
+        list[..how_many].iter().map(|address| (address % w, address / w)).collect()
     }
 
     /// Whether every macroblock is done.

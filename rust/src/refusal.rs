@@ -26,6 +26,8 @@ pub enum Refusal {
     /// A number lies outside -32768..=32767, or the inverse transform of a block of coefficients leaves the range that the standard demands of
     /// 8-bit samples (8.5.12.2, 8.5.13.2): a value that the clause names lies outside -32768..=32767, or above 32735 after the columns.
     Range = 8,
+    /// The row counts or the turn list have another length than the picture has rows, or a row count disagrees with the done map: count anew.
+    Rows = 9,
 }
 
 impl Refusal {
@@ -39,6 +41,7 @@ impl Refusal {
         Refusal::Unknown,
         Refusal::NotPermitted,
         Refusal::Range,
+        Refusal::Rows,
     ];
 
     /// The number of the refusal, as C callers get it.
@@ -71,6 +74,7 @@ impl fmt::Display for Refusal {
             Refusal::Unknown => "a kind or mode is unknown, or an unused mode is not 0",
             Refusal::NotPermitted => "a mode is not permitted where it stands",
             Refusal::Range => "a number or a block's transform is out of range",
+            Refusal::Rows => "a row count disagrees with the done map, or the counts or the list have a wrong length",
         })
     }
 }

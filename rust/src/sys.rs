@@ -43,6 +43,20 @@ extern "C" {
         numbers: *const i32,
         numbers_len: usize,
     ) -> u32;
+    pub fn jiwarbend_count_rows(w: u32, h: u32, done: *const u8, done_len: usize, rows: *mut u32, rows_len: usize) -> u32;
+    pub fn jiwarbend_turn(
+        w: u32,
+        h: u32,
+        done: *const u8,
+        done_len: usize,
+        slices: *const u16,
+        slices_len: usize,
+        rows: *const u32,
+        rows_len: usize,
+        list: *mut u32,
+        list_len: usize,
+        how_many: *mut u32,
+    ) -> u32;
 
     pub fn jiwarbend_clip_u8(v: i32) -> u8;
     pub fn jiwarbend_chroma_qp(qp: u8) -> u8;

@@ -276,6 +276,107 @@ fn rebuild() {
     }
 }
 
+/// A call of `count_rows` or of `turn` for 2 by 3 macroblocks in two slices, which is good until it is bent. The turn has macroblocks 1 and 2; that of the
+/// last row waits for its corner.
+struct Turn {
+    w: u32,
+    h: u32,
+    done: Vec<u8>,
+    slices: Vec<u16>,
+    rows: Vec<u32>,
+    list: Vec<u32>,
+}
+
+impl Turn {
+    fn new() -> Turn {
+        Turn { w: 2, h: 3, done: vec![1, 0, 255, 1, 1, 2], slices: vec![9, 9, 7, 7, 7, 7], rows: vec![1, 0, 1], list: vec![8; 3] }
+    }
+
+    /// The calls over memory that can only be read.
+    fn count_rows(self) -> impl FnOnce() -> u32 {
+        let (done, rows) = (ReadOnly::new(&self.done), ReadOnly::new(&self.rows));
+        move || unsafe { jiwarbend_count_rows(self.w, self.h, done.at(), done.len(), rows.at(), rows.len()) }
+    }
+
+    fn turn(self) -> impl FnOnce() -> u32 {
+        let (done, slices, rows) = (ReadOnly::new(&self.done), ReadOnly::new(&self.slices), ReadOnly::new(&self.rows));
+        let (list, how_many) = (ReadOnly::new(&self.list), ReadOnly::new(&[77u32]));
+        move || unsafe {
+            jiwarbend_turn(
+                self.w,
+                self.h,
+                done.at(),
+                done.len(),
+                slices.at(),
+                slices.len(),
+                rows.at(),
+                rows.len(),
+                list.at(),
+                list.len(),
+                how_many.at(),
+            )
+        }
+    }
+}
+
+type BendTurn = fn(&mut Turn);
+
+const BENT_SIZES: &[BendTurn] = &[|t| t.w = 0, |t| t.w = 121, |t| t.h = 0, |t| t.h = 69, |t| (t.w, t.h) = (u32::MAX, u32::MAX)];
+const BENT_DONE: &[BendTurn] = &[|t| t.done.truncate(5), |t| t.done.push(0), |t| t.done.clear()];
+const BENT_SLICES: &[BendTurn] = &[|t| t.slices.truncate(5), |t| t.slices.push(9), |t| t.slices.clear()];
+const BENT_ROWS: &[BendTurn] = &[|t| t.rows.truncate(2), |t| t.rows.push(0), |t| t.rows.clear()];
+const BENT_LIST: &[BendTurn] = &[|t| t.list.truncate(2), |t| t.list.push(8), |t| t.list.clear()];
+const BENT_COUNTS: &[BendTurn] = &[
+    |t| t.rows[0] = 0,
+    |t| t.rows[0] = 2,
+    |t| t.rows[1] = 1,
+    |t| t.rows[1] = u32::MAX,
+    // The last row: those before it are counted right.
+    |t| t.rows[2] = 0,
+    |t| t.rows[2] = 2,
+    |t| t.rows[2] = 3,
+];
+
+#[test]
+fn turns() {
+    for (number, bends) in [(1, BENT_SIZES), (2, BENT_DONE), (9, BENT_ROWS)] {
+        for (k, bend) in bends.iter().enumerate() {
+            let mut call = Turn::new();
+            bend(&mut call);
+            refused(&format!("count_rows, bent in way {k}"), number, call.count_rows());
+        }
+    }
+    for (number, bends) in [(1, BENT_SIZES), (2, BENT_DONE), (2, BENT_SLICES), (9, BENT_ROWS), (9, BENT_LIST), (9, BENT_COUNTS)] {
+        for (k, bend) in bends.iter().enumerate() {
+            let mut call = Turn::new();
+            bend(&mut call);
+            refused(&format!("turn, bent in way {k}"), number, call.turn());
+        }
+    }
+    accepted("count_rows", Turn::new().count_rows());
+    accepted("turn", Turn::new().turn());
+}
+
+#[test]
+fn turns_only_read_the_maps() {
+    // What is written is lent on the stack, and all else in pages that cannot be written.
+    let (done, slices) = (ReadOnly::new(&Turn::new().done), ReadOnly::new(&Turn::new().slices));
+    let counted = || {
+        let mut rows = [8u32; 3];
+        let answer = unsafe { jiwarbend_count_rows(2, 3, done.at(), done.len(), rows.as_mut_ptr(), 3) };
+        answer + (rows != [1, 0, 1]) as u32
+    };
+    assert_eq!(tried(counted), Ok(0), "count_rows: an answer, or the signal of a write into a map");
+    let rows = ReadOnly::new(&Turn::new().rows);
+    let listed = || {
+        let (mut list, mut how_many) = ([8u32; 3], 77);
+        let (d, s, r, to) = (done.at(), slices.at(), rows.at(), list.as_mut_ptr());
+        let answer = unsafe { jiwarbend_turn(2, 3, d, done.len(), s, slices.len(), r, rows.len(), to, 3, &mut how_many) };
+        answer + (list != [1, 2, 8] || how_many != 2) as u32
+    };
+    assert_eq!(tried(listed), Ok(0), "turn: an answer, or the signal of a write into a map or a count");
+}
+
 /// A list's length: one short, one long and empty.
 fn wrong_lengths(right: usize) -> [usize; 3] {
     [right - 1, right + 1, 0]

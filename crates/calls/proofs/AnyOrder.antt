@@ -32,7 +32,7 @@ own-append : (g : Picture) (cs ds : List Call) (s : Lent) → Own g cs s → Own
 own-append g [] ds s o u = u
 own-append g (c ∷ cs) ds s o u = (o .0, own-append g cs ds (after driver c s) (o .1) u)
 
-own-offers : (g : Picture) (o : List ℕ) (s : Lent) → Own g (map (offer g) o) s
+pub own-offers : (g : Picture) (o : List ℕ) (s : Lent) → Own g (map (offer g) o) s
 own-offers g [] s = tt
 own-offers g (a ∷ o) s = ((λ e. ap (offer g) (sym (offer-here g a))), own-offers g o (after driver (offer g a) s))
 

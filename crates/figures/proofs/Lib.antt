@@ -1,3 +1,4 @@
 -- What the figures follow from where they are not computed.
 pub mod FlatFigures
 pub mod ReadFigures
+pub mod TurnFigures

@@ -1,3 +1,4 @@
 -- The worked figures of the rules that are proved.
 pub mod Figures
 pub mod ReadFigures
+pub mod TurnFigures

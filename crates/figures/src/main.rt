@@ -1,5 +1,5 @@
 // Runs the limits that the rules name and that are not proved as figures: strides, offsets, lengths and numbers of the block calls, sizes, maps and
-// records of the picture calls, pictures rebuilt in two orders, and one with a slice lost. Each line says what was called and what came of it.
+// records of the picture calls, the turn list, pictures rebuilt in two orders, and one with a slice lost. Each line says what was called and what came of it.
 mod blocks; // calls on one block
 mod lost; // a picture with a slice lost
 mod offer; // a record to a picture
@@ -7,6 +7,7 @@ mod pictures; // calls on a picture
 mod ranges; // blocks of coefficients at the ends of the range
 mod shuffled; // pictures in two orders
 mod tell;
+mod turn_by_turn; // the turn list
 
 use libc::STDOUT_FILENO;
 
@@ -32,6 +33,9 @@ fn main() {
     pictures::waiting();
     pictures::refusals();
     pictures::ranges();
+    turn_by_turn::counts();
+    turn_by_turn::turns();
+    turn_by_turn::whole_picture();
     shuffled::compare();
     lost::lose();
 }

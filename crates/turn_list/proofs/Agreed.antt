@@ -36,6 +36,6 @@ module _ (w h : ℕ) (slices done : List ℕ) where
 
   pub agreed : Agreed w h slices done
   agreed = record {
-    counted = λ rows e. ap (λ l. turnAnswer w h slices done l h) (put rows (rowCounts w h done) e) ∙ right;
+    after-count = λ rows e. ap (λ l. turnAnswer w h slices done l h) (put rows (rowCounts w h done) e) ∙ right;
     off = wrong;
   }

@@ -1,5 +1,5 @@
--- The laws about this crate's definitions: what a turn lists is `Starting`, and which counts are refused `Agreed`.
+-- The laws about this crate's definitions: what a turn lists is `Startable`, and which counts are refused `Agreed`.
 pub mod Agreed
-pub mod Starting
+pub mod Startable
 mod Leading
 mod Listing

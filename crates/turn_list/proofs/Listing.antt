@@ -15,10 +15,10 @@ use Rattle.maps.specs.Size.{address}
 use Rattle.maps.specs.declared.size.Spot.{Spot}
 use Rattle.maps.proofs.Beside.{marks-at}
 use Rattle.turn_list.specs.Turn.{gapless, mayStart, turnRow, turn, over}
-use Rattle.turn_list.specs.inner.Rows.{Rows, mayStartAt, Put}
+use Rattle.turn_list.specs.inner.Rows.{RowsAgree, mayStartAt, RowPut}
 
 -- under the rules the marks as `marks_of` answers them are those of the neighbours
-start-at : (p : Spot) (slices done rows : List ℕ) → Rows (p .w) (p .h) slices done rows → p .y < p .h → mayStartAt p slices done ≡ mayStart (p .w) slices done (p .x) (p .y)
+start-at : (p : Spot) (slices done rows : List ℕ) → RowsAgree (p .w) (p .h) slices done rows → p .y < p .h → mayStartAt p slices done ≡ mayStart (p .w) slices done (p .x) (p .y)
 start-at p slices done rows r l =
     and-same (ltb (p .x) (p .w)) (λ t. ap (λ m. allSettled (p .w) (p .x) (p .y) m done)
     (marks-at (p .w) (p .h) slices (p .x) (p .y) (r .mapped .size) (r .slices-long) (record { in-w = ltb-true (p .x) (p .w) t; in-h = l })))
@@ -70,8 +70,8 @@ module _ (w : ℕ) (slices done list : List ℕ) where
       }
 
   -- one more row
-  pub listing-row : (h y k : ℕ) (rows now : List ℕ) (r : ℕ) (after : List ℕ) → Rows w h slices done rows → y < h → k < length list
-      → Put (record { w = w; h = h; x = getD rows y 0; y = y }) slices done k now r after → Listing y k now → Listing (y + 1) r after
+  pub listing-row : (h y k : ℕ) (rows now : List ℕ) (r : ℕ) (after : List ℕ) → RowsAgree w h slices done rows → y < h → k < length list
+      → RowPut (record { w = w; h = h; x = getD rows y 0; y = y }) slices done k now r after → Listing y k now → Listing (y + 1) r after
   listing-row h y k rows now r after g l b p s = go (mayStart w slices done x y) refl
     where
       x : ℕ

@@ -41,7 +41,7 @@ turn w zero slices done = []
 turn w (suc h) slices done = turn w h slices done ++ turnRow w slices done h
 
 -- the same in words: macroblock (x, y) is undone, all to the left of it in its row is done, and so is each available neighbour
-pub record Starts (w : ℕ) (slices done : List ℕ) (x y : ℕ) : Type 0 where
+pub record Startable (w : ℕ) (slices done : List ℕ) (x y : ℕ) : Type 0 where
   pub undone : ¬ Done done (address w x y)
   pub left : (i : ℕ) → i < x → Done done (address w i y)
   pub ready : (k : Side) → available w slices x y k ≡ true → Done done (beside w x y k)

@@ -1,12 +1,14 @@
 // The row counts: how many macroblocks of each row are done from the left without a gap.
 ghost use mathlib.Core.Path.{_≡_};
-ghost use mathlib.Core.Bool.{cond};
-ghost use Prim.Native.Nat.{_+_, _*_, _≤_, _<_, min};
-ghost use lib.Dec.{eqb};
+ghost use mathlib.Core.Bool.{true};
+ghost use Prim.Native.Nat.{_+_, _*_, _≤_, _<_};
 ghost use lib.ListN.{length};
 ghost use Rattle.laws.specs.Answer.{written};
+ghost use Rattle.laws.specs.Table.{allBelow};
+ghost use Rattle.maps.specs.Done.{isDone};
 ghost use Rattle.turn_list.specs.Turn.{rowCounts, countAnswer, agreeRule};
-ghost use Rattle.turn_list.specs.inner.Rows.{Counted, Mapped};
+ghost use Rattle.turn_list.specs.inner.Rows.{RowCount, Fitting};
+use basics::tests::both;
 use maps::size::size_ok;
 
 // Brings the row counts into agreement with the done map.
@@ -29,12 +31,12 @@ pub fn count_rows(w: u32, h: u32, done: &[u8], rows: &mut [u32]) -> u32
 
 // Puts the count of each row.
 fn put_counts(w: u32, h: u32, done: &[u8], rows: &mut [u32])
-    requires { ⌜ Mapped w h (now done) (now rows) ⌝ }
+    requires { ⌜ Fitting w h (now done) (now rows) ⌝ }
     ensures { λ _. ⌜ now (rows .exit) ≡ rowCounts w h (now (done .entry)) ⌝ }
 {
     let mut y = 0;
     while y < rows.len() {
-        let x = done_from_left(done, w as u8, y);
+        let x = done_from_left(done, w as usize, y);
         rows[y] = x as u32;
         y += 1;
     }
@@ -42,12 +44,12 @@ fn put_counts(w: u32, h: u32, done: &[u8], rows: &mut [u32])
 
 // Whether the counts of all rows agree with the done map.
 pub(crate) fn rows_agree(w: u32, h: u32, done: &[u8], rows: &[u32]) -> bool
-    requires { ⌜ Mapped w h (now done) (now rows) ⌝ }
+    requires { ⌜ Fitting w h (now done) (now rows) ⌝ }
     ensures { λ r. ⌜ r ≡ agreeRule w h (now (done .entry)) (now (rows .entry)) .holds ⌝ }
 {
     let mut y = 0;
     while y < rows.len() {
-        let x = done_from_left(done, w as u8, y);
+        let x = done_from_left(done, w as usize, y);
         if rows[y] != (x as u32) {
             return false;
         }
@@ -56,30 +58,47 @@ pub(crate) fn rows_agree(w: u32, h: u32, done: &[u8], rows: &[u32]) -> bool
     true
 }
 
-// How many macroblocks of row y are done from the left without a gap: the least column that is not done, and w where there is none.
-fn done_from_left(done: &[u8], w: u8, y: usize) -> u8
+// How many macroblocks of row y are done from the left without a gap.
+fn done_from_left(done: &[u8], w: usize, y: usize) -> usize
     requires { ⌜ (w ≤ 120) × (y < 68) × (y * w + w ≤ length (now done)) ⌝ }
-    ensures { λ r. ⌜ Counted w (now (done .entry)) y r ⌝ }
+    ensures { λ r. ⌜ RowCount w (now (done .entry)) y r ⌝ }
 {
-    let first = y * (w as usize);
-    let mut least = w;
-    let mut x: u8 = 0;
+    let first = y * w;
+    let mut x = done_groups(done, w, first);
     while x < w {
-        least = lesser(least, undone_column(done[first + (x as usize)], x, w));
+        if done[first + x] != 1 {
+            return x;
+        }
         x += 1;
     }
-    least
+    x
 }
 
-// Column x where its byte of the done map is not 1, and w where it is.
-fn undone_column(byte: u8, x: u8, w: u8) -> u8
-    ensures { λ r. ⌜ r ≡ cond (eqb byte 1) w x ⌝ }
+// How many of w macroblocks from `first` on lie in groups of sixteen that are all done, without a gap.
+fn done_groups(done: &[u8], w: usize, first: usize) -> usize
+    requires { ⌜ (w ≤ 120) × (first + w ≤ length (now done)) ⌝ }
+    ensures { λ r. ⌜ (r ≤ w) × (allBelow r (λ i. isDone (now (done .entry)) (first + i)) ≡ true) ⌝ }
 {
-    if byte == 1 { w } else { x }
+    let mut x = 0;
+    while x + 16 <= w {
+        if !sixteen_done(done, first + x) {
+            return x;
+        }
+        x += 16;
+    }
+    x
 }
 
-fn lesser(a: u8, b: u8) -> u8
-    ensures { λ r. ⌜ r ≡ min a b ⌝ }
+// Whether the sixteen macroblocks from `at` on are all done. Without a way out they are looked at side by side.
+fn sixteen_done(done: &[u8], at: usize) -> bool
+    requires { ⌜ at + 16 ≤ length (now done) ⌝ }
+    ensures { λ r. ⌜ r ≡ allBelow 16 (λ i. isDone (now (done .entry)) (at + i)) ⌝ }
 {
-    if b < a { b } else { a }
+    let mut all = true;
+    let mut i = 0;
+    while i < 16 {
+        all = both(all, done[at + i] == 1);
+        i += 1;
+    }
+    all
 }

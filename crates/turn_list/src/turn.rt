@@ -4,7 +4,7 @@ ghost use Prim.Native.Nat.{_≤_, _<_};
 ghost use lib.ListN.{length};
 ghost use Rattle.laws.specs.Answer.{written};
 ghost use Rattle.turn_list.specs.Turn.{turn, over, turnAnswer};
-ghost use Rattle.turn_list.specs.inner.Rows.{Rows, mayStartAt, Put};
+ghost use Rattle.turn_list.specs.inner.Rows.{RowsAgree, mayStartAt, RowPut};
 use super::rows::rows_agree;
 use maps::done::ready;
 use maps::neighbours::marks_of;
@@ -51,7 +51,7 @@ pub fn turn(
 
 // Lists a turn row by row, and answers how many macroblocks it has.
 fn list_turn(w: u32, h: u32, done: &[u8], slices: &[u16], rows: &[u32], list: &mut [u32]) -> usize
-    requires { ⌜ Rows w h (now slices) (now done) (now rows) × (length (now list) ≡ h) ⌝ }
+    requires { ⌜ RowsAgree w h (now slices) (now done) (now rows) × (length (now list) ≡ h) ⌝ }
     ensures { λ r. ⌜ (r ≡ length (turn w h (now (slices .entry)) (now (done .entry)))) × (r ≤ h)
         × (now (list .exit) ≡ over (turn w h (now (slices .entry)) (now (done .entry))) (now (list .entry))) ⌝ }
 {
@@ -68,7 +68,7 @@ fn list_turn(w: u32, h: u32, done: &[u8], slices: &[u16], rows: &[u32], list: &m
 // Puts the address of a row's macroblock at place k of the list, if it may start, and answers the next free place.
 fn list_row(spot: Spot, done: &[u8], slices: &[u16], list: &mut [u32], k: usize) -> usize
     requires { ⌜ (spot .w ≤ 120) × (spot .y ≤ 68) × (spot .x ≤ 120) × (k < length (now list)) ⌝ }
-    ensures { λ r. ⌜ Put spot (now (slices .entry)) (now (done .entry)) k (now (list .entry)) r (now (list .exit)) ⌝ }
+    ensures { λ r. ⌜ RowPut spot (now (slices .entry)) (now (done .entry)) k (now (list .entry)) r (now (list .exit)) ⌝ }
 {
     if !may_start(spot, done, slices) {
         return k;

@@ -17,17 +17,17 @@ use Rattle.maps.specs.Size.{address}
 use Rattle.maps.proofs.Sizes.{address-inside}
 use Rattle.calls.specs.Run.{Picture, totalOf, offer, Awaits}
 use Rattle.calls.proofs.Rules.{waits-available}
-use Rattle.turn_list.proofs.Starting.{turn-named, turn-rises, turn-first}
-use Rattle.turns.specs.OneTurn.{turnOf, Beside}
+use Rattle.turn_list.proofs.Startable.{turn-named, turn-rises, turn-first}
+use Rattle.turns.specs.OneTurn.{turnOf, Adjoins}
 
 module _ (g : Picture) (done : List ℕ) where
   pub record Begins (a : ℕ) : Type 0 where
     pub inside : a < totalOf g
     pub undone : ¬ Done done a
-    pub ready : Ready (Beside g) done a
+    pub ready : Ready (Adjoins g) done a
 
   ready-at : (x y : ℕ) → x < g .width → ((k : Side) → available (g .width) (g .slices) x y k ≡ true → Done done (beside (g .width) x y k))
-      → Ready (Beside g) done (address (g .width) x y)
+      → Ready (Adjoins g) done (address (g .width) x y)
   ready-at x y h f = rw (digits-mod y h, digits-div y h) (λ b (k, t, e). subst (Done done) e (f k t))
 
   pub turn-begins : (a : ℕ) → Names (turnOf g done) a → Begins a
@@ -40,7 +40,7 @@ module _ (g : Picture) (done : List ℕ) where
         ready = ready-at (q .x) (p .y) (q .in-w) (q .starts .ready);
       })
 
-  pub turn-apart : (a b : ℕ) → Names (turnOf g done) a → Names (turnOf g done) b → ¬ Beside g a b
+  pub turn-apart : (a b : ℕ) → Names (turnOf g done) a → Names (turnOf g done) b → ¬ Adjoins g a b
   turn-apart a b m n k = turn-begins b n .undone (turn-begins a m .ready b k)
 
   -- so they wait for nothing, and may come in any order

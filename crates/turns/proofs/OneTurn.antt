@@ -1,47 +1,75 @@
 -- A turn's macroblocks are undone, ready and apart, so that the picture's driver takes them in any order, and their squares change places. Assumes nothing.
-use mathlib.Core.Path.{_≡_, refl, sym, ap, subst, _∙_}
+use mathlib.Core.Path.{_≡_, refl, sym, ap, ap₂, subst, _∙_}
 use mathlib.Core.Bool.{true}
 use mathlib.Core.List.{List, [], _∷_, map, head-eq-of-cons-eq, tail-eq-of-cons-eq}
-use Prim.Native.Nat.{ℕ, suc, _+_, _<_, _≤_, min}
+use Prim.Native.Nat.{ℕ, zero, suc, _+_, _<_, _≤_, min}
 use native.Mathlib.Omega.{arith}
 use lib.ListN.{length, replicate}
 use lib.Seq.{ext-getD}
-use Rattle.laws.proofs.Answers.{put}
-use Rattle.order.specs.Driver.{Fair, Spares, after, play}
+use Rattle.laws.proofs.Answers.{put, kept}
+use Rattle.order.specs.Driver.{Fair, Spares, after, play, answers}
 use Rattle.order.specs.Lists.{Names, Permutes}
 use Rattle.order.specs.Order.{Alike, Done, build, marked}
-use Rattle.order.proofs.Driver.{Sound, sound-play, taken-now, done-kept, Taken, order-taken}
+use Rattle.order.proofs.Driver.{Sound, sound-play, taken-now, done-kept, order-taken}
 use Rattle.order.proofs.Lists.{names-permuted, length-permuted}
 use Rattle.order.proofs.Permuted.{marked-permuted, build-permuted}
 use Rattle.maps.specs.Progress.{startAnswer}
+use Rattle.maps.specs.Size.{total}
 use Rattle.calls.specs.Planes.{Plane, side, planeOk}
-use Rattle.calls.specs.Rebuild.{Call, Lent, here, Acceptable, answerTo, rebuilt}
-use Rattle.calls.specs.Run.{Picture, totalOf, offer, Waits, Awaits, Lends, Planes, Location, sampleAt, Region, driver}
-use Rattle.calls.proofs.OnePicture.{view, fair, spares, step, Depends, bytes, Good, sized, awaits-smaller, laws, told, acceptable}
+use Rattle.calls.specs.Rebuild.{Call, Lent, here, Acceptable, answerTo, squareIn, rebuilt}
+use Rattle.calls.specs.Run.{Picture, totalOf, offer, Waits, Lends, Planes, Location, sampleAt, Region, driver, Own}
+use Rattle.calls.proofs.AnyOrder.{own-offers}
+use Rattle.calls.proofs.OnePicture.{view, fair, spares, step, offer-here, Depends, bytes, Good, sized, awaits-smaller, laws, told, acceptable}
 use Rattle.calls.proofs.Squares.{depends-marked}
-use Rattle.turn_list.proofs.Starting.{turn-starts, turn-names, turn-rises, turn-rows, turn-short}
-use Rattle.turns.specs.OneTurn.{turnOf, Beside, rebuiltAt, offered, replies, Holds, TakesTurn, SameButLast, OneTurn}
+use Rattle.turn_list.proofs.Startable.{turn-starts, turn-names, turn-rises, turn-rows, turn-short}
+use Rattle.turns.specs.OneTurn.{turnOf, rebuiltAt, WellLent, acceptedBy, TakesTurn, SameButLast, OneTurn}
 use Rattle.turns.proofs.Begun.{turn-begins, turn-apart, turn-ready, turn-permitted, turn-has-first, turn-some}
 
--- ---- calls that are all accepted
+-- ---- what a run leaves, by the macroblocks that it accepts
 module _ (g : Picture) where
-  accepted-after : (a : ℕ) (s : Lent) → answerTo (offer g a) s ≡ 0 → after driver (offer g a) s ≡ rebuilt (offer g a) s
-  accepted-after a s e = put s (rebuilt (offer g a) s) e
+  pub record Left (cs : List Call) (s : Lent) : Type 0 where
+    pub planes : play driver cs s .planes ≡ build (step g) (acceptedBy cs s) (s .planes)
+    pub done : play driver cs s .done ≡ marked (acceptedBy cs s) (s .done)
+    pub count : play driver cs s .progress .count ≡ min (s .progress .count + length (acceptedBy cs s)) (totalOf g)
 
-  planes-after : (o : List ℕ) (s : Lent) → replies g o s ≡ replicate (length o) 0 → offered g o s .planes ≡ build (step g) o (s .planes)
-  planes-after [] s e = refl
-  planes-after (a ∷ o) s e =
-      planes-after o (after driver (offer g a) s) (tail-eq-of-cons-eq e) ∙ ap (λ t. build (step g) o (t .planes)) (accepted-after a s (head-eq-of-cons-eq e))
+  left : (cs : List Call) (s : Lent) → s .progress .count ≤ totalOf g → Own g cs s → Left cs s
+  left [] s few o = record { planes = refl; done = refl; count = omega arith }
+  left (c ∷ cs) s few o = go (answerTo c s) refl (λ l. left cs (after driver c s) l (o .1))
+    where
+      go : (r : ℕ) → answerTo c s ≡ r → (after driver c s .progress .count ≤ totalOf g → Left cs (after driver c s)) → Left (c ∷ cs) s
+      go zero e ih =
+          let is : after driver c s ≡ rebuilt c s = put s (rebuilt c s) e in
+          let more : acceptedBy (c ∷ cs) s ≡ here c ∷ acceptedBy cs (after driver c s) = put (acceptedBy cs (after driver c s)) (here c ∷ acceptedBy cs (after driver c s)) e in
+          let own = o .0 e in
+          let one : after driver c s .progress .count ≡ min (s .progress .count + 1) (totalOf g) =
+          ap (λ t. t .progress .count) is ∙ ap (λ d. min (s .progress .count + 1) (total (d .width) (d .height))) own in
+          let rest = ih (omega (arith, one)) in
+          record {
+            planes = rest .planes ∙ ap (λ t. build (step g) (acceptedBy cs (after driver c s)) (t .planes)) is
+                ∙ ap (λ d. build (step g) (acceptedBy cs (after driver c s)) (λ p. squareIn d p (s .planes p))) own
+                ∙ ap (λ l. build (step g) l (s .planes)) (sym more);
+            done = rest .done ∙ ap (λ t. marked (acceptedBy cs (after driver c s)) (t .done)) is ∙ ap (λ l. marked l (s .done)) (sym more);
+            count = rest .count ∙ omega (arith, one, ap length more);
+          }
+      go (suc r) e ih =
+          let is : after driver c s ≡ s = kept r s (rebuilt c s) e in
+          let same : acceptedBy (c ∷ cs) s ≡ acceptedBy cs (after driver c s) = kept r (acceptedBy cs (after driver c s)) (here c ∷ acceptedBy cs (after driver c s)) e in
+          let rest = ih (omega (arith, ap (λ t. t .progress .count) is)) in
+          record {
+            planes = rest .planes ∙ ap (λ t. build (step g) (acceptedBy cs (after driver c s)) (t .planes)) is ∙ ap (λ l. build (step g) l (s .planes)) (sym same);
+            done = rest .done ∙ ap (λ t. marked (acceptedBy cs (after driver c s)) (t .done)) is ∙ ap (λ l. marked l (s .done)) (sym same);
+            count = rest .count ∙ ap₂ (λ n l. min (n + length l) (totalOf g)) (ap (λ t. t .progress .count) is) (sym same);
+          }
 
-  count-after : (o : List ℕ) (s : Lent) → s .progress .count ≤ totalOf g → replies g o s ≡ replicate (length o) 0
-      → offered g o s .progress .count ≡ min (s .progress .count + length o) (totalOf g)
-  count-after [] s few e = omega arith
-  count-after (a ∷ o) s few e =
-      let one = ap (λ t. t .progress .count) (accepted-after a s (head-eq-of-cons-eq e)) in
-      omega (arith, one, count-after o (after driver (offer g a) s) (omega (arith, one)) (tail-eq-of-cons-eq e))
+  -- offers that are all accepted
+  accepted-offers : (o : List ℕ) (s : Lent) → answers driver (map (offer g) o) s ≡ replicate (length o) 0 → acceptedBy (map (offer g) o) s ≡ o
+  accepted-offers [] s e = refl
+  accepted-offers (a ∷ o) s e =
+      put (acceptedBy (map (offer g) o) (after driver (offer g a) s)) (here (offer g a) ∷ acceptedBy (map (offer g) o) (after driver (offer g a) s)) (head-eq-of-cons-eq e)
+      ∙ ap₂ (λ b l. b ∷ l) (offer-here g a) (accepted-offers o (after driver (offer g a) s) (tail-eq-of-cons-eq e))
 
 -- ---- what is lent
-module _ (g : Picture) (s : Lent) (k : Holds g s) where
+module _ (g : Picture) (s : Lent) (k : WellLent g s) where
   fairly : Fair driver view (totalOf g) here Waits
   fairly = fair (totalOf g)
 
@@ -51,7 +79,7 @@ module _ (g : Picture) (s : Lent) (k : Holds g s) where
   sound : Sound fairly sparing s
   sound = record { good = λ p. refl; long = sized g s (k .lends) .1; few = k .few }
 
-  holds-sound : (t : Lent) → Sound fairly sparing t → Holds g t
+  holds-sound : (t : Lent) → Sound fairly sparing t → WellLent g t
   holds-sound t v = record {
     lends = record {
       starts = subst (λ n. startAnswer (g .width) (g .height) n ≡ 0) (sized g s (k .lends) .1 ∙ sym (v .long)) (k .lends .starts);
@@ -100,30 +128,37 @@ module _ (g : Picture) (s : Lent) (l : Lends g s) where
       build-permuted (laws g s l) (told g s l) planes-same p (λ a n. turn-begins g (s .done) a n .inside) free (s .planes) (λ q. refl)
 
 -- ---- a whole turn
-module _ (g : Picture) (s : Lent) (o : List ℕ) (t : TakesTurn g s o) where
-  went : Taken (fairly g s (t .holds)) (sparing g s (t .holds)) (awaits-smaller g s (t .holds .lends)) (offer g) o s
-  went =
-      order-taken (fairly g s (t .holds)) (sparing g s (t .holds)) (awaits-smaller g s (t .holds .lends)) (offer g) o s (sound g s (t .holds))
-      (λ a n. acceptable g s (t .holds .lends) a (turn-begins g (s .done) a (names-permuted (t .permutes) a n) .inside) (t .acceptable a n))
-      (turn-permitted g (s .done) o (sized g s (t .holds .lends) .1) (t .permutes))
+module _ (g : Picture) (s : Lent) (k : WellLent g s) (o : List ℕ) (p : Permutes o (turnOf g (s .done))) (ok : (a : ℕ) → Names o a → Acceptable (offer g a)) where
+  taken : answers driver (map (offer g) o) s ≡ replicate (length o) 0
+  taken =
+      order-taken (fairly g s k) (sparing g s k) (awaits-smaller g s (k .lends)) (offer g) o s (sound g s k)
+      (λ a n. acceptable g s (k .lends) a (turn-begins g (s .done) a (names-permuted p a n) .inside) (ok a n))
+      (turn-permitted g (s .done) o (sized g s (k .lends) .1) p) .0
 
-  done : offered g o s .done ≡ marked (turnOf g (s .done)) (s .done)
-  done = went .1 ∙ marked-permuted (t .permutes) (s .done)
+  takes : TakesTurn g s (map (offer g) o)
+  takes = record { holds = k; own = own-offers g o s; permutes = subst (λ l. Permutes l (turnOf g (s .done))) (sym (accepted-offers g o s taken)) p }
 
-  planes : offered g o s .planes ≡ build (step g) (turnOf g (s .done)) (s .planes)
-  planes = planes-after g o s (went .0) ∙ squares-permuted g s (t .holds .lends) o (t .permutes)
+module _ (g : Picture) (s : Lent) (cs : List Call) (t : TakesTurn g s cs) where
+  went : Left g cs s
+  went = left g cs s (t .holds .few) (t .own)
 
-  counts : offered g o s .progress .count ≡ min (s .progress .count + length (turnOf g (s .done))) (totalOf g)
-  counts = count-after g o s (t .holds .few) (went .0) ∙ ap (λ n. min (s .progress .count + n) (totalOf g)) (length-permuted (t .permutes))
+  done : play driver cs s .done ≡ marked (turnOf g (s .done)) (s .done)
+  done = went .done ∙ marked-permuted (t .permutes) (s .done)
 
-  again : Holds g (offered g o s)
-  again = holds-sound g s (t .holds) (offered g o s) (sound-play (fairly g s (t .holds)) (sparing g s (t .holds)) (map (offer g) o) s (sound g s (t .holds)))
+  planes : play driver cs s .planes ≡ build (step g) (turnOf g (s .done)) (s .planes)
+  planes = went .planes ∙ squares-permuted g s (t .holds .lends) (acceptedBy cs s) (t .permutes)
 
-same : (g : Picture) (s : Lent) (o u : List ℕ) → TakesTurn g s o → TakesTurn g s u → SameButLast (offered g o s) (offered g u s)
-same g s o u t v = record {
-  planes = λ p. ap (λ f. f p) (planes g s o t ∙ sym (planes g s u v));
-  done = done g s o t ∙ sym (done g s u v);
-  count = counts g s o t ∙ sym (counts g s u v);
+  counts : play driver cs s .progress .count ≡ min (s .progress .count + length (turnOf g (s .done))) (totalOf g)
+  counts = went .count ∙ ap (λ n. min (s .progress .count + n) (totalOf g)) (length-permuted (t .permutes))
+
+  again : WellLent g (play driver cs s)
+  again = holds-sound g s (t .holds) (play driver cs s) (sound-play (fairly g s (t .holds)) (sparing g s (t .holds)) cs s (sound g s (t .holds)))
+
+same : (g : Picture) (s : Lent) (cs ds : List Call) → TakesTurn g s cs → TakesTurn g s ds → SameButLast (play driver cs s) (play driver ds s)
+same g s cs ds t v = record {
+  planes = λ p. ap (λ f. f p) (planes g s cs t ∙ sym (planes g s ds v));
+  done = done g s cs t ∙ sym (done g s ds v);
+  count = counts g s cs t ∙ sym (counts g s ds v);
 }
 
 pub one-turn : (g : Picture) → OneTurn g
@@ -139,10 +174,10 @@ one-turn g = record {
   apart = turn-apart g;
   unwritten = λ s l. unwritten g s l;
   unread = λ s l. unread g s l;
-  taken = λ s o t. went g s o t .0;
-  done = λ s o t. done g s o t;
-  counts = λ s o t. counts g s o t;
-  again = λ s o t. again g s o t;
+  taken = λ s k o p ok. (taken g s k o p ok, takes g s k o p ok);
+  done = λ s cs t. done g s cs t;
+  counts = λ s cs t. counts g s cs t;
+  again = λ s cs t. again g s cs t;
   same = same g;
-  next = λ s o u t v. ap (turnOf g) (same g s o u t v .done);
+  next = λ s cs ds t v. ap (turnOf g) (same g s cs ds t v .done);
 }

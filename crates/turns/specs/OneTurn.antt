@@ -2,48 +2,47 @@
 use mathlib.Core.Path.{_≡_}
 use mathlib.Core.Bool.{true}
 use mathlib.Core.Logic.{_↔_}
-use mathlib.Core.List.{List, [], map}
+use mathlib.Core.List.{List, [], _∷_, map}
 use Prim.Native.Nat.{ℕ, _+_, _/_, _%_, _<_, _≤_, min}
 use lib.ListN.{length, replicate}
-use Rattle.order.specs.Driver.{play, answers}
+use Rattle.laws.specs.Answer.{written}
+use Rattle.order.specs.Driver.{after, play, answers}
 use Rattle.order.specs.Lists.{Names, Rises, Permutes}
 use Rattle.order.specs.Order.{Alike, Done, AllDone, First, marked}
 use Rattle.maps.specs.Neighbours.{Side, beside}
 use Rattle.maps.specs.Size.{address, Stands}
 use Rattle.calls.specs.Planes.{Plane}
-use Rattle.calls.specs.Rebuild.{Call, Lent, marks, Acceptable, answerTo, squareIn}
-use Rattle.calls.specs.Run.{Picture, totalOf, offer, Lends, Planes, Location, sampleAt, Region, driver}
-use Rattle.turn_list.specs.Turn.{turn, Starts}
+use Rattle.calls.specs.Rebuild.{Call, Lent, here, marks, Acceptable, answerTo, squareIn}
+use Rattle.calls.specs.Run.{Picture, totalOf, offer, Lends, Planes, Location, sampleAt, Region, driver, Own}
+use Rattle.turn_list.specs.Turn.{turn, Startable}
 
 -- a picture's turn, by its done map
 abbrev pub turnOf : Picture → List ℕ → List ℕ
 turnOf g done = turn (g .width) (g .height) (g .slices) done
 
 -- macroblock b is an available neighbour of macroblock a
-abbrev pub Beside : Picture → ℕ → ℕ → Type 0
-Beside g a b = (k : Side) × (marks (offer g a) k ≡ true) × (beside (g .width) (a % g .width) (a / g .width) k ≡ b)
+abbrev pub Adjoins : Picture → ℕ → ℕ → Type 0
+Adjoins g a b = (k : Side) × (marks (offer g a) k ≡ true) × (beside (g .width) (a % g .width) (a / g .width) k ≡ b)
 
 -- what macroblock a, rebuilt from its own record, makes of the planes
 abbrev pub rebuiltAt : Picture → ℕ → Planes → Planes
 rebuiltAt g a planes p = squareIn (offer g a) p (planes p)
 
--- ---- macroblocks offered one after the other, each with its own record: what is lent afterwards, and what the calls answered
-abbrev pub offered : Picture → List ℕ → Lent → Lent
-offered g o s = play driver (map (offer g) o) s
-
-abbrev pub replies : Picture → List ℕ → Lent → List ℕ
-replies g o s = answers driver (map (offer g) o) s
-
 -- what is lent is what the rules 1 and 2 ask for: memory that is large enough, and a count of at most W * H. Which macroblocks are done is any
-pub record Holds (g : Picture) (s : Lent) : Type 0 where
+pub record WellLent (g : Picture) (s : Lent) : Type 0 where
   pub lends : Lends g s
   pub few : s .progress .count ≤ totalOf g
 
--- o is the turn in some order, and each of its macroblocks has an acceptable record
-pub record TakesTurn (g : Picture) (s : Lent) (o : List ℕ) : Type 0 where
-  pub holds : Holds g s
-  pub permutes : Permutes o (turnOf g (s .done))
-  pub acceptable : (a : ℕ) → Names o a → Acceptable (offer g a)
+-- ---- a run of calls with any arguments: the macroblocks that it accepts, in their order
+abbrev pub acceptedBy : List Call → Lent → List ℕ
+acceptedBy [] s = []
+acceptedBy (c ∷ cs) s = let rest = acceptedBy cs (after driver c s) in written (answerTo c s) rest (here c ∷ rest)
+
+-- it accepts the macroblocks of a turn, in whatever order, each with its own record, and refuses everything else
+pub record TakesTurn (g : Picture) (s : Lent) (cs : List Call) : Type 0 where
+  pub holds : WellLent g s
+  pub own : Own g cs s
+  pub permutes : Permutes (acceptedBy cs s) (turnOf g (s .done))
 
 -- the same planes, done map and count: all but the last address
 pub record SameButLast (s t : Lent) : Type 0 where
@@ -55,7 +54,7 @@ pub record OneTurn (g : Picture) : Type 0 where
   -- ---- what a turn lists
   -- the macroblocks that may start, and nothing else, from the top row down, one of a row at most
   pub lists : (done : List ℕ) (x y : ℕ) → Stands (g .width) (g .height) x y
-      → Names (turnOf g done) (address (g .width) x y) ↔ Starts (g .width) (g .slices) done x y
+      → Names (turnOf g done) (address (g .width) x y) ↔ Startable (g .width) (g .slices) done x y
   pub inside : (done : List ℕ) (a : ℕ) → Names (turnOf g done) a → a < totalOf g
   pub rises : (done : List ℕ) → Rises (turnOf g done)
   pub rows : (done : List ℕ) (a b : ℕ) → Names (turnOf g done) a → Names (turnOf g done) b → a / g .width ≡ b / g .width → a ≡ b
@@ -65,22 +64,24 @@ pub record OneTurn (g : Picture) : Type 0 where
   pub some : (done : List ℕ) → ¬ AllDone (totalOf g) done → ¬ (turnOf g done ≡ [])
   pub first : (done : List ℕ) (a : ℕ) → First (totalOf g) done a → Names (turnOf g done) a
   -- what a core has drawn stays good, whatever calls come meanwhile: its own acceptable record is accepted, unless the macroblock was done by another
-  pub stays : (s : Lent) → Holds g s → (a : ℕ) → Names (turnOf g (s .done)) a → Acceptable (offer g a)
+  pub stays : (s : Lent) → WellLent g s → (a : ℕ) → Names (turnOf g (s .done)) a → Acceptable (offer g a)
       → (cs : List Call) → ¬ Done (play driver cs s .done) a → answerTo (offer g a) (play driver cs s) ≡ 0
   -- ---- cores do not meet: neither of two macroblocks of a turn reads what the other writes
-  pub apart : (done : List ℕ) (a b : ℕ) → Names (turnOf g done) a → Names (turnOf g done) b → ¬ Beside g a b
+  pub apart : (done : List ℕ) (a b : ℕ) → Names (turnOf g done) a → Names (turnOf g done) b → ¬ Adjoins g a b
   pub unwritten : (s : Lent) → Lends g s → (a b : ℕ) → Names (turnOf g (s .done)) a → Names (turnOf g (s .done)) b → ¬ (a ≡ b)
       → Alike sampleAt (Region g b) (rebuiltAt g a (s .planes)) (s .planes)
   pub unread : (s : Lent) → Lends g s → (a b : ℕ) → Names (turnOf g (s .done)) a → Names (turnOf g (s .done)) b
       → (t : Planes) → ((p : Plane) → length (t p) ≡ length (s .planes p)) → ((i : Location) → ¬ Region g b i → sampleAt (s .planes) i ≡ sampleAt t i)
       → Alike sampleAt (Region g a) (rebuiltAt g a (s .planes)) (rebuiltAt g a t)
   -- ---- a whole turn, in any order
-  -- no call is refused
-  pub taken : (s : Lent) (o : List ℕ) → TakesTurn g s o → replies g o s ≡ replicate (length o) 0
-  -- the turn is marked and counted, and what is left is again what the rules ask for
-  pub done : (s : Lent) (o : List ℕ) → TakesTurn g s o → offered g o s .done ≡ marked (turnOf g (s .done)) (s .done)
-  pub counts : (s : Lent) (o : List ℕ) → TakesTurn g s o → offered g o s .progress .count ≡ min (s .progress .count + length (turnOf g (s .done))) (totalOf g)
-  pub again : (s : Lent) (o : List ℕ) → TakesTurn g s o → Holds g (offered g o s)
-  -- in two orders the same is left, and so the next turn is the same
-  pub same : (s : Lent) (o u : List ℕ) → TakesTurn g s o → TakesTurn g s u → SameButLast (offered g o s) (offered g u s)
-  pub next : (s : Lent) (o u : List ℕ) → TakesTurn g s o → TakesTurn g s u → turnOf g (offered g o s .done) ≡ turnOf g (offered g u s .done)
+  -- offered with acceptable records, none of its macroblocks is refused
+  pub taken : (s : Lent) → WellLent g s → (o : List ℕ) → Permutes o (turnOf g (s .done)) → ((a : ℕ) → Names o a → Acceptable (offer g a))
+      → (answers driver (map (offer g) o) s ≡ replicate (length o) 0) × TakesTurn g s (map (offer g) o)
+  -- whatever is refused between them, the turn is marked and counted, and what is left is again what the rules ask for
+  pub done : (s : Lent) (cs : List Call) → TakesTurn g s cs → play driver cs s .done ≡ marked (turnOf g (s .done)) (s .done)
+  pub counts : (s : Lent) (cs : List Call) → TakesTurn g s cs
+      → play driver cs s .progress .count ≡ min (s .progress .count + length (turnOf g (s .done))) (totalOf g)
+  pub again : (s : Lent) (cs : List Call) → TakesTurn g s cs → WellLent g (play driver cs s)
+  -- two such runs leave the same, and so the next turn is the same
+  pub same : (s : Lent) (cs ds : List Call) → TakesTurn g s cs → TakesTurn g s ds → SameButLast (play driver cs s) (play driver ds s)
+  pub next : (s : Lent) (cs ds : List Call) → TakesTurn g s cs → TakesTurn g s ds → turnOf g (play driver cs s .done) ≡ turnOf g (play driver ds s .done)

@@ -53,7 +53,7 @@ pub fn near(w: usize, slices: &[u16], x: usize, y: usize) -> Near {
     }
 }
 
-fn sized(w: u32, h: u32) -> bool {
+pub(crate) fn sized(w: u32, h: u32) -> bool {
     (1..=120).contains(&w) && (1..=68).contains(&h)
 }
 

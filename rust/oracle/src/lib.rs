@@ -1,6 +1,6 @@
 //! The Rust that was ported, as its own files say it, beside it the 8x8 inverse and the range of the values inside both inverses, which they do not
-//! have, and around all of it the rules of docs/RULES.md: what a call is refused for, what a mode reads, and a driver over whole pictures that makes the
-//! same checks in the same order as the port.
+//! have, and around all of it the rules of docs/RULES.md: what a call is refused for, what a mode reads, the turn list, and a driver over whole pictures that
+//! makes the same checks in the same order as the port.
 include!(concat!(env!("OUT_DIR"), "/modules.rs"));
 
 pub mod driver;
@@ -8,6 +8,7 @@ pub mod halfway;
 pub mod inverse_8x8;
 pub mod reads;
 pub mod rules;
+pub mod turns;
 
 /// Stands in for the crate's own module: its `inverse_core` is that of transform_quant.rs. What only `reconstruct_4x4_scan_into` needs,
 /// which was not ported, is declared and never called.

@@ -12,19 +12,19 @@ use Rattle.maps.specs.declared.size.Spot.{Spot}
 use Rattle.turn_list.specs.Turn.{gapless}
 
 -- a row's count
-pub record Counted (w : ℕ) (done : List ℕ) (y r : ℕ) : Type 0 where
+pub record RowCount (w : ℕ) (done : List ℕ) (y r : ℕ) : Type 0 where
   pub is : r ≡ gapless w done y
   pub most : r ≤ w
 
 -- a done map of good size, with an entry for each row beside it
-pub record Mapped (w h : ℕ) (done rows : List ℕ) : Type 0 where
+pub record Fitting (w h : ℕ) (done rows : List ℕ) : Type 0 where
   pub size : Size w h
   pub done-long : length done ≡ total w h
   pub rows-long : length rows ≡ h
 
 -- the same with the slice map, and the counts agree
-pub record Rows (w h : ℕ) (slices done rows : List ℕ) : Type 0 where
-  pub mapped : Mapped w h done rows
+pub record RowsAgree (w h : ℕ) (slices done rows : List ℕ) : Type 0 where
+  pub mapped : Fitting w h done rows
   pub slices-long : length slices ≡ total w h
   pub agree : (y : ℕ) → y < h → getD rows y 0 ≡ gapless w done y
 
@@ -33,6 +33,6 @@ abbrev pub mayStartAt : Spot → (slices done : List ℕ) → Bool
 mayStartAt p slices done = ltb (p .x) (p .w) && allSettled (p .w) (p .x) (p .y) (marksAt (p .w) (p .h) slices (p .x) (p .y)) done
 
 -- its address put at place k of a list, if it may start; r is the next free place
-pub record Put (p : Spot) (slices done : List ℕ) (k : ℕ) (list : List ℕ) (r : ℕ) (after : List ℕ) : Type 0 where
+pub record RowPut (p : Spot) (slices done : List ℕ) (k : ℕ) (list : List ℕ) (r : ℕ) (after : List ℕ) : Type 0 where
   pub yes-put : mayStartAt p slices done ≡ true → (r ≡ k + 1) × (after ≡ set list k (address (p .w) (p .x) (p .y)))
   pub no-put : mayStartAt p slices done ≡ false → (r ≡ k) × (after ≡ list)

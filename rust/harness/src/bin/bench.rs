@@ -1,7 +1,7 @@
 //! The port and the Rust side by side in one run, on the same inputs. The Rust comes in the best forms that are known for it: with the same
 //! checks as the port and without them, and for pictures each also with a short way for blocks of no or one coefficient; the faster of the two is
-//! what the port is held against. Its 8x8 inverse is the one that the differential runs compare with. All are timed in turns, many times; what is
-//! told is the median of the ratios with the quartiles around it.
+//! what the port is held against; so are turn lists, where the short way looks at eight marks together. The 8x8 inverse and the turn lists are those that
+//! the differential runs compare with. All are timed in turns, many times; what is told is the median of the ratios with the quartiles around it.
 //!
 //! `bench FOLDER [ROUNDS [PART]]` writes table.md, benchmark.svg and, of all rows, headline.md into the folder; with PART the rows that have it in
 //! their names. Where valgrind is installed the table also has the instructions of each side: valgrind runs this program again with `count`, which
@@ -11,7 +11,7 @@ use jiwarbend::sys::*;
 use oracle::inverse_8x8::inverse_8x8;
 use oracle::predict::{self, I16Mode};
 use oracle::rules::{self, Marks, Square};
-use oracle::{driver, intra_pred, transform};
+use oracle::{driver, intra_pred, transform, turns};
 use std::fmt::Write;
 use std::hint::black_box;
 use std::path::Path;
@@ -648,6 +648,132 @@ fn waiting() -> Vec<Row> {
 
 const SIZES: [(u32, u32); 3] = [(11, 9), (40, 22), (120, 68)];
 
+/// What the calls for a turn are lent, in one slice.
+#[derive(Clone)]
+struct Maps {
+    w: u32,
+    h: u32,
+    done: Vec<u8>,
+    slices: Vec<u16>,
+    rows: Vec<u32>,
+    list: Vec<u32>,
+    how_many: u32,
+}
+
+impl Maps {
+    fn new(w: u32, h: u32) -> Maps {
+        let n = (w * h) as usize;
+        Maps { w, h, done: vec![0; n], slices: vec![0; n], rows: vec![0; h as usize], list: vec![0; h as usize], how_many: 0 }
+    }
+
+    /// A picture of which half is done: of each turn one macroblock at random.
+    fn half_done(random: &mut Random, w: u32, h: u32) -> Maps {
+        let mut maps = Maps::new(w, h);
+        for _ in 0..w * h / 2 {
+            assert_eq!((maps.rust_count::<true, true>(), maps.rust_turn::<true, true>()), (0, 0));
+            let turn = &maps.list[..maps.how_many as usize];
+            maps.done[random.pick(turn) as usize] = 1;
+        }
+        assert_eq!(maps.rust_count::<true, true>(), 0);
+        maps
+    }
+
+    fn rust_count<const CHECKS: bool, const SHORT: bool>(&mut self) -> u32 {
+        turns::count_rows::<CHECKS, SHORT>(self.w, self.h, &self.done, &mut self.rows)
+    }
+
+    fn rust_turn<const CHECKS: bool, const SHORT: bool>(&mut self) -> u32 {
+        turns::turn::<CHECKS, SHORT>(self.w, self.h, &self.done, &self.slices, &self.rows, &mut self.list, &mut self.how_many)
+    }
+
+    fn port_count(&mut self) -> u32 {
+        let (done, rows) = (&self.done, &mut self.rows);
+        unsafe { jiwarbend_count_rows(self.w, self.h, done.as_ptr(), done.len(), rows.as_mut_ptr(), rows.len()) }
+    }
+
+    fn port_turn(&mut self) -> u32 {
+        let Maps { w, h, done, slices, rows, list, how_many } = self;
+        let (d, s, r, l) = (done.as_ptr(), slices.as_ptr(), rows.as_ptr(), list.as_mut_ptr());
+        unsafe { jiwarbend_turn(*w, *h, d, done.len(), s, slices.len(), r, rows.len(), l, list.len(), how_many) }
+    }
+
+    /// Takes turn after turn until all is done, and gives their number.
+    fn take_all(&mut self, count: impl Fn(&mut Maps) -> u32, turn: impl Fn(&mut Maps) -> u32) -> u32 {
+        self.done.fill(0);
+        for turns in 0.. {
+            assert_eq!((count(self), turn(self)), (0, 0));
+            if self.how_many == 0 {
+                return turns;
+            }
+            self.list[..self.how_many as usize].iter().for_each(|&address| self.done[address as usize] = 1);
+        }
+        unreachable!()
+    }
+}
+
+/// A call over pictures that are half done, of each side.
+fn half_done(name: String, halves: &[Maps], calls: [&dyn Fn(&mut Maps) -> u32; 5]) -> Row {
+    let mut of_sides = vec![halves.to_vec(); 5];
+    let mut sides: Vec<_> = of_sides
+        .iter_mut()
+        .zip(calls)
+        .map(|(halves, call)| {
+            move |i: usize| {
+                let one = i % halves.len();
+                assert_eq!(call(black_box(&mut halves[one])), 0);
+            }
+        })
+        .collect();
+    compare("turns", name, 1.0, sides.iter_mut().map(|side| side as Timed).collect())
+}
+
+/// The row counts and the turns of pictures that are half done, and all turns of a picture with their counts. The short cut is to look at eight marks together.
+fn turn_lists() -> Vec<Row> {
+    let mut random = Random::new(5);
+    let mut rows = Vec::new();
+    for (w, h) in SIZES {
+        let halves: Vec<Maps> = (0..16).map(|_| Maps::half_done(&mut random, w, h)).collect();
+        let name = |call: &str| format!("{call} of {w} by {h} macroblocks");
+        rows.push(half_done(
+            name("count_rows, half"),
+            &halves,
+            [
+                &Maps::rust_count::<true, false>,
+                &Maps::rust_count::<false, false>,
+                &Maps::port_count,
+                &Maps::rust_count::<true, true>,
+                &Maps::rust_count::<false, true>,
+            ],
+        ));
+        rows.push(half_done(
+            name("turn, half"),
+            &halves,
+            [
+                &Maps::rust_turn::<true, false>,
+                &Maps::rust_turn::<false, false>,
+                &Maps::port_turn,
+                &Maps::rust_turn::<true, true>,
+                &Maps::rust_turn::<false, true>,
+            ],
+        ));
+        let [mut a, mut b, mut c, mut d, mut e] = [(); 5].map(|()| Maps::new(w, h));
+        let turns = a.take_all(Maps::rust_count::<true, false>, Maps::rust_turn::<true, false>);
+        rows.push(compare(
+            "turns",
+            name("all turns"),
+            turns.into(),
+            vec![
+                &mut |_| assert_eq!(black_box(&mut a).take_all(Maps::rust_count::<true, false>, Maps::rust_turn::<true, false>), turns),
+                &mut |_| assert_eq!(black_box(&mut b).take_all(Maps::rust_count::<false, false>, Maps::rust_turn::<false, false>), turns),
+                &mut |_| assert_eq!(black_box(&mut c).take_all(Maps::port_count, Maps::port_turn), turns),
+                &mut |_| assert_eq!(black_box(&mut d).take_all(Maps::rust_count::<true, true>, Maps::rust_turn::<true, true>), turns),
+                &mut |_| assert_eq!(black_box(&mut e).take_all(Maps::rust_count::<false, true>, Maps::rust_turn::<false, true>), turns),
+            ],
+        ));
+    }
+    rows
+}
+
 /// Pictures whose numbers are drawn at random, by kind of macroblock.
 fn random_pictures() -> Vec<Row> {
     let mut random = Random::new(2);
@@ -760,11 +886,12 @@ fn predictions(inputs: &Inputs) -> Vec<Row> {
     rows
 }
 
-const GROUPS: [(&str, &str); 7] = [
+const GROUPS: [(&str, &str); 8] = [
     ("coded", "Whole pictures that x264 coded, nanoseconds for a macroblock"),
     ("sparse", "Whole pictures with as few coefficients as those, nanoseconds for a macroblock"),
     ("random", "Whole pictures with numbers at random, nanoseconds for a macroblock"),
     ("waiting", "Macroblocks that are refused as not ready, nanoseconds for a call"),
+    ("turns", "Row counts and turn lists, nanoseconds for a call; all turns of a picture, for a turn with its counts"),
     ("prediction", "Prediction, nanoseconds for a block"),
     ("sums", "Inverses and clipped sums, nanoseconds for a block"),
     ("small", "Small routines and start, nanoseconds for a call"),
@@ -828,8 +955,8 @@ fn headline(rows: &[Row]) -> String {
         let (least, most) = of.fold((f64::MAX, 0.0), |(a, b): (f64, f64), v| (a.min(v), b.max(v)));
         format!("{least:.2} to {most:.2}")
     };
-    let macroblocks = ["coded", "sparse", "random", "waiting"];
-    let blocks: Vec<&Row> = rows.iter().filter(|r| !macroblocks.contains(&r.group)).collect();
+    let pictures = ["coded", "sparse", "random", "waiting", "turns"];
+    let blocks: Vec<&Row> = rows.iter().filter(|r| !pictures.contains(&r.group)).collect();
     let slower = |checks: bool| blocks.iter().filter(|r| r.ratio(checks).middle > 1.0).count();
     format!(
         "- Pictures that x264 coded take {} of the time of the best Rust with the same checks, and {} of the best Rust without checks 6 to 8.\n\
@@ -905,6 +1032,7 @@ fn main() {
     rows.extend(sparse_pictures());
     rows.extend(random_pictures());
     rows.extend(waiting());
+    rows.extend(turn_lists());
     rows.extend(predictions(&inputs));
     rows.extend(blocks(&inputs));
     rows.extend(small(&inputs));

@@ -5,21 +5,22 @@
 //! often each answer was given is counted: an answer that a call can give and has not given is a failure too, and so is one that a family of blocks
 //! near the ends of the range gives seldom. What the Rust says of a 4x4 or 8x8 case is also due, transposed, of the case turned on its side.
 //! What a mode reads, and so what a macroblock waits for, was found by trial with the Rust's predictors (`oracle::reads`); calls that are accepted beside an
-//! undone neighbour are counted, and a run without them is a failure.
+//! undone neighbour are counted, and a run without them is a failure. The turn list has no Rust to be held against: a second writing of its rule stands
+//! for it (`oracle::turns`).
 use harness::ends::{at_an_end, bring_in, past_an_end};
 use harness::{block_marks, good_record, good_records, shuffled, slice_map, Guarded, Memory, Random, Record};
 use jiwarbend::block;
 use jiwarbend::sys::*;
 use jiwarbend::turned::{Case, Case4x4, Case8x8};
 use oracle::rules::{self, Marks, Square};
-use oracle::{driver, halfway, predict, reads};
+use oracle::{driver, halfway, predict, reads, turns};
 use std::collections::BTreeMap;
 
 struct Report {
     scale: usize,
     passed: usize,
     failed: usize,
-    seen: [u64; 9],
+    seen: [u64; 10],
 }
 
 /// The calls of one routine: which answers are due, how often each was given and in how many of a hundred cases it must be, how many cases came by
@@ -27,7 +28,7 @@ struct Report {
 struct Routine<'a> {
     name: String,
     due: &'static [u32],
-    seen: [u64; 9],
+    seen: [u64; 10],
     least_each: u64,
     wrong: u64,
     turned: u64,
@@ -39,7 +40,7 @@ struct Routine<'a> {
 impl Report {
     fn routine(&mut self, name: impl Into<String>, due: &'static [u32]) -> Routine<'_> {
         let name = name.into();
-        Routine { name, due, seen: [0; 9], least_each: 0, wrong: 0, turned: 0, least_turned: 0, lacks: String::new(), report: self }
+        Routine { name, due, seen: [0; 10], least_each: 0, wrong: 0, turned: 0, least_turned: 0, lacks: String::new(), report: self }
     }
 
     /// Cases that are accepted or refused for their range, and often enough each.
@@ -74,7 +75,7 @@ impl Routine<'_> {
 
 impl Drop for Routine<'_> {
     fn drop(&mut self) {
-        let answers = || (0..9).filter(|&n| self.seen[n as usize] > 0);
+        let answers = || (0..10).filter(|&n| self.seen[n as usize] > 0);
         let missing: Vec<u32> = self.due.iter().copied().filter(|&n| self.seen[n as usize] == 0).collect();
         let odd: Vec<u32> = answers().filter(|n| !self.due.contains(n)).collect();
         let mut verdict = if self.wrong == 0 { "equal".to_string() } else { format!("{} DIFFER", self.wrong) };
@@ -1177,10 +1178,190 @@ fn pictures_early(report: &mut Report) {
     judge_early(early, &mut routine);
 }
 
+/// What the calls for a turn are lent, between guards.
+#[derive(Clone, Debug, PartialEq, Eq)]
+struct Maps {
+    w: u32,
+    h: u32,
+    done: Guarded<u8>,
+    slices: Guarded<u16>,
+    rows: Guarded<u32>,
+    list: Guarded<u32>,
+    how_many: Guarded<u32>,
+}
+
+impl Maps {
+    /// A picture of this size in any state, with the counts of its rows.
+    fn new(random: &mut Random, (w, h): (u32, u32)) -> Maps {
+        let n = (w * h) as usize;
+        let slices = if random.one_in(5) { (0..n).map(|a| a as u16).collect() } else { slice_map(random, w, h) };
+        // Done from the left on as far as a row may be, and beyond that here and there.
+        let (least, strays) = (random.below(w as usize + 1), random.pick(&[2, 3, 20, 1 << 20]));
+        let mut done = Vec::with_capacity(n);
+        for _ in 0..h {
+            let from_left = least + random.below(w as usize + 1 - least);
+            done.extend((0..w as usize).map(|x| if x < from_left || random.one_in(strays) { 1 } else { random.pick(&[0, 0, 2, 255]) }));
+        }
+        let mut any = || random.word() as u32;
+        let (mut rows, list): (Vec<u32>, Vec<u32>) = (0..h).map(|_| (any(), any())).unzip();
+        let how_many = Guarded::new(&[any()]);
+        let mut quick = rows.clone();
+        assert_eq!(
+            (turns::count_rows::<false, false>(w, h, &done, &mut rows), turns::count_rows::<false, true>(w, h, &done, &mut quick)),
+            (0, 0)
+        );
+        assert_eq!(rows, quick, "the plain counts and the quick ones");
+        let [rows, list] = [Guarded::new(&rows), Guarded::new(&list)];
+        Maps { w, h, done: Guarded::new(&done), slices: Guarded::new(&slices), rows, list, how_many }
+    }
+
+    fn count_rows(&mut self) -> u32 {
+        let (done, rows) = (self.done.inner(), self.rows.inner());
+        unsafe { jiwarbend_count_rows(self.w, self.h, done.as_ptr(), done.len(), rows.as_mut_ptr(), rows.len()) }
+    }
+
+    fn turn(&mut self) -> u32 {
+        let (done, slices, rows, list) = (self.done.inner(), self.slices.inner(), self.rows.inner(), self.list.inner());
+        let (d, s, r, l, many) = (done.as_ptr(), slices.as_ptr(), rows.as_ptr(), list.as_mut_ptr(), self.how_many.inner().as_mut_ptr());
+        unsafe { jiwarbend_turn(self.w, self.h, d, done.len(), s, slices.len(), r, rows.len(), l, list.len(), many) }
+    }
+
+    /// Compares both sides of a call: the answer, which it gives back, and all that was lent with the guards around it.
+    fn compare(&self, routine: &mut Routine, port: fn(&mut Maps) -> u32, rust: fn(&mut Maps) -> u32) -> u32 {
+        let (mut ours, mut wanted) = (self.clone(), self.clone());
+        let (answer, said) = (port(&mut ours), rust(&mut wanted));
+        routine.told((answer, ours), (said, wanted), || format!("{self:?}"));
+        said
+    }
+
+    fn compare_count(&self, routine: &mut Routine) -> u32 {
+        self.compare(routine, Maps::count_rows, |m| turns::count_rows::<true, false>(m.w, m.h, m.done.inner(), m.rows.inner()))
+    }
+
+    fn compare_turn(&self, routine: &mut Routine) -> u32 {
+        self.compare(routine, Maps::turn, |m| {
+            let (list, many) = (m.list.inner(), &mut m.how_many.inner()[0]);
+            turns::turn::<true, false>(m.w, m.h, m.done.inner(), m.slices.inner(), m.rows.inner(), list, many)
+        })
+    }
+}
+
+/// The ways in which a call for a turn is bent.
+const BENT_MAPS: [fn(&mut Maps, &mut Random); 10] = [
+    |m, random| m.w = random.pick(&[0, 121, u32::MAX, 1 << 16, m.w + 1]),
+    |m, random| m.h = random.pick(&[0, 69, u32::MAX, 1 << 16, m.h.wrapping_add(1)]),
+    |m, random| resize(&mut m.done, random),
+    |m, random| resize(&mut m.slices, random),
+    |m, random| resize(&mut m.rows, random),
+    |m, random| resize(&mut m.list, random),
+    // A mark changes, and the counts do not follow.
+    |m, random| {
+        let at = random.below(m.done.len().max(1));
+        if let Some(mark) = m.done.inner().get_mut(at) {
+            *mark = random.pick(&[0, 1, 2, 255]);
+        }
+    },
+    // A count that is one off, and one that is anything.
+    |m, random| bend_count(m, random, |right, _| [right.wrapping_sub(1), right.wrapping_add(1)]),
+    |m, random| bend_count(m, random, |_, any| [any, u32::MAX - any]),
+    |m, random| {
+        let w = m.w;
+        m.rows.inner().iter_mut().for_each(|count| *count = random.below(w.clamp(1, 120) as usize + 2) as u32);
+    },
+];
+
+fn bend_count(m: &mut Maps, random: &mut Random, others: fn(u32, u32) -> [u32; 2]) {
+    let (at, any) = (random.below(m.rows.len().max(1)), random.below(130) as u32);
+    if let Some(count) = m.rows.inner().get_mut(at) {
+        *count = random.pick(&others(*count, any));
+    }
+}
+
+/// The row counts and the turn list over maps in any state: sizes at their limits, each bend by itself, then several at once or none.
+fn turn_lists(report: &mut Report) {
+    let rounds = report.many(150_000);
+    type Compared = fn(&Maps, &mut Routine) -> u32;
+    for (name, compared) in [("count_rows", Maps::compare_count as Compared), ("turn", Maps::compare_turn)] {
+        let mut routine = report.routine(name, &[0, 1, 2, 9]);
+        let mut random = Random::new(name.len() as u64);
+        for size in [(1, 1), (120, 1), (121, 1), (1, 68), (1, 69), (120, 68), (121, 68), (120, 69)] {
+            (0..40).for_each(|_| {
+                compared(&Maps::new(&mut random, size), &mut routine);
+            });
+        }
+        let any_size = |random: &mut Random| (1 + random.below(9) as u32, 1 + random.below(8) as u32);
+        for bend in BENT_MAPS {
+            for _ in 0..rounds / 100 {
+                let size = any_size(&mut random);
+                let mut maps = Maps::new(&mut random, size);
+                bend(&mut maps, &mut random);
+                compared(&maps, &mut routine);
+            }
+        }
+        let (mut several, mut empty) = (0, 0);
+        for _ in 0..rounds {
+            let size = any_size(&mut random);
+            let mut maps = Maps::new(&mut random, size);
+            for _ in 0..random.pick(&[0, 0, 0, 1, 1, 2, 4]) {
+                random.pick(&BENT_MAPS)(&mut maps, &mut random);
+            }
+            if compared(&maps, &mut routine) == 0 && maps.turn() == 0 {
+                several += u64::from(maps.how_many.inner()[0] > 1);
+                empty += u64::from(maps.how_many.inner()[0] == 0);
+            }
+        }
+        if name == "turn" {
+            println!("  {several} turns had several macroblocks, and {empty} were of finished pictures");
+            if several == 0 || empty == 0 {
+                routine.lacks += ", NO LONG TURN OR NO EMPTY ONE";
+            }
+        }
+    }
+}
+
+/// Whole pictures turn by turn, each turn in a shuffled order, against the Rust in raster order. The counts are kept by both sides, and bad calls come between.
+fn pictures_by_turns(report: &mut Report) {
+    let rounds = report.many(2_000) / 4;
+    let mut routine = report.routine("pictures, turn by turn", &[0, 9]);
+    let mut random = Random::new(17);
+    let mut lists = 0;
+    for round in 0..rounds {
+        let size = if round == 0 { (120, 68) } else { (1 + random.below(12) as u32, 1 + random.below(9) as u32) };
+        let (w, h) = size;
+        let mut maps = Maps::new(&mut random, size);
+        let slices = maps.slices.inner().to_vec();
+        let records = good_records(&mut random, w, h, &slices, |random| random.below(3) as u8);
+        let mut port = Memory::new(&mut random, w, h, slices, 0);
+        let mut wanted = port.clone();
+        for (a, r) in records.iter().enumerate() {
+            let said = wanted.rust(a as u32 % w, a as u32 / w, r.kind, &r.modes, r.chroma_mode, &r.numbers);
+            assert_eq!(said, 0, "a good record is taken in raster order");
+        }
+        let mut steady = true;
+        while steady && port.progress.inner()[0] < w * h {
+            maps.done = port.done.clone();
+            // The counts are those from before the last turn, which are refused, until they are made anew.
+            maps.compare_turn(&mut routine);
+            maps.compare_count(&mut routine);
+            steady &= maps.count_rows() == 0 && maps.compare_turn(&mut routine) == 0 && maps.turn() == 0;
+            let many = if steady { maps.how_many.inner()[0] as usize } else { 0 };
+            let turn = maps.list.inner()[..many].to_vec();
+            steady &= many > 0;
+            for k in shuffled(&mut random, turn.len()) {
+                let (a, r) = (turn[k], &records[turn[k] as usize]);
+                steady &= port.port(a % w, a / w, r.kind, &r.modes, r.chroma_mode, &r.numbers) == 0;
+            }
+            lists += 1;
+        }
+        routine.same((steady, &port.planes, &port.done), (true, &wanted.planes, &wanted.done), || format!("picture {round}, {w} by {h}"));
+    }
+    println!("  {rounds} pictures took {lists} turns");
+}
+
 fn main() {
     // A share of the random cases in percent: the whole run takes some minutes under an emulator.
     let scale = std::env::args().nth(1).map_or(100, |s| s.parse().expect("a share in percent"));
-    let mut report = Report { scale, passed: 0, failed: 0, seen: [0; 9] };
+    let mut report = Report { scale, passed: 0, failed: 0, seen: [0; 10] };
     small(&mut report);
     let turn_4x4 = Turn { case: Case4x4::turned, block: Case4x4::transposed, least: 50 };
     let turn_8x8 = Turn { case: Case8x8::turned, block: Case8x8::transposed, least: 20 };
@@ -1233,6 +1414,8 @@ fn main() {
     rebuild_waiting(&mut report);
     pictures(&mut report);
     pictures_early(&mut report);
+    turn_lists(&mut report);
+    pictures_by_turns(&mut report);
     println!("\nall calls, by answer:");
     for (answer, times) in report.seen.iter().enumerate() {
         println!("  {answer} {times:>9}");

@@ -19,14 +19,14 @@ abbrev μ-loop : tie.MeasureT-loop
 loop-holds : tie.Need-loop-holds Inv-loop μ-loop
 loop-holds c = let a = c .before .before .args in (omega arith, filled-none 0 (gapless (a .w) (a .done .now)) (length (a .rows .now)) (a .rows .now) refl)
 
-cast-done-from-left : tie.Need-cast-done-from-left Inv-loop μ-loop
-cast-done-from-left c = let s = c .before .before .before .before in omega (arith, s .pre .size .most-w)
-
 done-from-left-requires : tie.Need-done-from-left-requires Inv-loop μ-loop
 done-from-left-requires c κs =
     let s = c .before .before .before .before in
     let long = c .before .loop .inv .1 .long in
     row-in (s .args .w) (s .args .h) (c .before .loop .y) (s .args .done .now) (s .args .rows .now) (s .pre) (omega arith)
+
+cast-rows : tie.Need-cast-rows Inv-loop μ-loop
+cast-rows c = let s = c .before .before .before .before .before in omega (arith, c .done-from-left .ensures .most, s .pre .size .most-w)
 
 add-y : tie.Need-add-y Inv-loop μ-loop
 add-y c = let long = c .before .before .loop .inv .1 .long in omega arith
@@ -57,5 +57,4 @@ returns c =
 pub put-counts-spec : {M : Type 1} → statement M
 put-counts-spec =
     tie.close
-    (tie.spec Inv-loop μ-loop loop-holds cast-done-from-left done-from-left-requires (λ c. search needs) (λ c. search needs) (λ c. omega arith) add-y loop-less loop-again
-    same-length returns)
+    (tie.spec Inv-loop μ-loop loop-holds done-from-left-requires cast-rows (λ c. search needs) (λ c. omega arith) add-y loop-less loop-again same-length returns)

@@ -28,13 +28,13 @@ abbrev μ-loop : tie.MeasureT-loop
 loop-holds : tie.Need-loop-holds Inv-loop μ-loop
 loop-holds c = let a = c .before .before .args in (omega arith, all-none (agrees (a .w) (a .done .now) (a .rows .now)))
 
-cast-done-from-left : tie.Need-cast-done-from-left Inv-loop μ-loop
-cast-done-from-left c = let s = c .before .before .before .before in omega (arith, s .pre .size .most-w)
-
 done-from-left-requires : tie.Need-done-from-left-requires Inv-loop μ-loop
 done-from-left-requires c κs =
     let s = c .before .before .before .before in
     row-in (s .args .w) (s .args .h) (c .before .loop .y) (s .args .done .now) (s .args .rows .now) (s .pre) (omega arith)
+
+cast-if1 : tie.Need-cast-if1 Inv-loop μ-loop
+cast-if1 c = let s = c .before .before .before .before .before .before in omega (arith, c .before .done-from-left .ensures .most, s .pre .size .most-w)
 
 returns : tie.Need-returns Inv-loop μ-loop
 returns c =
@@ -64,5 +64,5 @@ returns-2 c =
 pub rows-agree-spec : {M : Type 1} → statement M
 rows-agree-spec =
     tie.close
-    (tie.spec Inv-loop μ-loop loop-holds cast-done-from-left done-from-left-requires (λ c. search needs) (λ c. search needs) (λ c. search needs) returns (λ c. search needs)
-    (λ c. omega arith) loop-again returns-2)
+    (tie.spec Inv-loop μ-loop loop-holds done-from-left-requires (λ c. search needs) (λ c. search needs) cast-if1 returns (λ c. search needs) (λ c. omega arith) loop-again
+    returns-2)

@@ -11,7 +11,7 @@ use Rattle.laws.proofs.Tests.{all-at}
 use Rattle.maps.specs.Size.{sizeOk}
 use Rattle.maps.proofs.Sizes.{size-is, product-most}
 use Rattle.turn_list.specs.Turn.{gapless, turnAnswer}
-use Rattle.turn_list.specs.inner.Rows.{Mapped}
+use Rattle.turn_list.specs.inner.Rows.{Fitting}
 use Rattle.turn_list.proofs.turn.turn.Statement.{statement}
 use Rattle.turn_list.proofs.turn.turn.Tie as tie
 
@@ -20,7 +20,7 @@ sized : (c : tie.Else1) → let a = c .before .before .before .before .before .b
 sized c = sym (c .before .size-ok .ensures) ∙ not-false _ (c .if1 .left)
 
 mapped : (c : tie.Else5) → let a = c .before .before .before .before .before .before .before .before .before .before .args in
-    Mapped (a .w) (a .h) (a .done .now) (a .rows .now)
+    Fitting (a .w) (a .h) (a .done .now) (a .rows .now)
 mapped c =
     let a = c .before .before .before .before .before .before .before .before .before .before .args in
     record { size = size-is (a .w) (a .h) (sized (c .before .before .before .before)); done-long = c .before .before .before .if2 .left; rows-long = c .before .if4 .left }

@@ -21,32 +21,32 @@ use Rattle.maps.specs.Size.{total, address, Stands}
 use Rattle.maps.proofs.Beside.{available-at}
 use Rattle.maps.proofs.Sizes.{address-inside, place-of}
 use Rattle.maps.proofs.Waiting.{done-is, done-yes, undone-is, undone-yes, settled-is, settled-yes}
-use Rattle.turn_list.specs.Turn.{gapless, mayStart, turnRow, turn, Starts}
+use Rattle.turn_list.specs.Turn.{gapless, mayStart, turnRow, turn, Startable}
 use Rattle.turn_list.proofs.Leading.{leads-same, doneAt, gapless-is}
 
 module _ (w : ℕ) (slices done : List ℕ) where
   -- ---- a row
   -- what may start stands where the row's count says
-  starts-gapless : (x y : ℕ) → x < w → Starts w slices done x y → gapless w done y ≡ x
+  starts-gapless : (x y : ℕ) → x < w → Startable w slices done x y → gapless w done y ≡ x
   starts-gapless x y h s =
       leads-same w (doneAt w done y) (gapless w done y) x (gapless-is w done y)
       (record { most = omega arith; all = λ i l. done-yes done (address w i y) (s .left i l); stop = λ l. undone-yes done (address w x y) (s .undone) })
 
   -- the macroblock of row y that may start, by its address
-  pub record StartsAt (y a : ℕ) : Type 0 where
+  pub record StartableAt (y a : ℕ) : Type 0 where
     pub x : ℕ
     pub in-w : x < w
     pub is : a ≡ address w x y
-    pub starts : Starts w slices done x y
+    pub starts : Startable w slices done x y
 
-  row-named : (y a : ℕ) → Names (turnRow w slices done y) a → StartsAt y a
+  row-named : (y a : ℕ) → Names (turnRow w slices done y) a → StartableAt y a
   unfolding turnRow
   row-named y a = go (mayStart w slices done (gapless w done y) y) refl
     where
       x : ℕ
       x = gapless w done y
 
-      go : (b : Bool) → mayStart w slices done x y ≡ b → Names (cond b (address w x y ∷ []) []) a → StartsAt y a
+      go : (b : Bool) → mayStart w slices done x y ≡ b → Names (cond b (address w x y ∷ []) []) a → StartableAt y a
       go false e n = absurd n
       go true e (inr n) = absurd n
       go true e (inl q) =
@@ -63,7 +63,7 @@ module _ (w : ℕ) (slices done : List ℕ) where
             };
           }
 
-  row-is : (x y : ℕ) → x < w → Starts w slices done x y → turnRow w slices done y ≡ address w x y ∷ []
+  row-is : (x y : ℕ) → x < w → Startable w slices done x y → turnRow w slices done y ≡ address w x y ∷ []
   unfolding turnRow
   row-is x y h s =
       rw (starts-gapless x y h s, and-of (lt-ltb x w h) (settled-yes w x y (available w slices x y) done (s .ready)))
@@ -89,7 +89,7 @@ module _ (w : ℕ) (slices done : List ℕ) where
   pub record Listed (h a : ℕ) : Type 0 where
     pub y : ℕ
     pub in-h : y < h
-    pub at : StartsAt y a
+    pub at : StartableAt y a
 
   pub turn-named : (h a : ℕ) → Names (turn w h slices done) a → Listed h a
   unfolding turn
@@ -100,7 +100,7 @@ module _ (w : ℕ) (slices done : List ℕ) where
       go f (inl m) = let p = f m in record { y = p .y; in-h = omega (arith, p .in-h); at = p .at }
       go f (inr m) = record { y = h; in-h = omega arith; at = row-named h a m }
 
-  pub turn-names : (h x y : ℕ) → Stands w h x y → Starts w slices done x y → Names (turn w h slices done) (address w x y)
+  pub turn-names : (h x y : ℕ) → Stands w h x y → Startable w slices done x y → Names (turn w h slices done) (address w x y)
   unfolding turn
   turn-names zero x y p s = absurd (not-suc-le-zero (p .in-h))
   turn-names (suc h) x y p s = go (λ l. turn-names h x y (record { in-w = p .in-w; in-h = l }) s) (decLt y h)
@@ -134,23 +134,23 @@ module _ (w : ℕ) (slices done : List ℕ) where
   place-same x y i j h k e =
       (sym (digits-mod j k) ∙ ap (λ a. a % w) (sym e) ∙ digits-mod y h, sym (digits-div j k) ∙ ap (λ a. a / w) (sym e) ∙ digits-div y h)
 
-  pub turn-starts : (h x y : ℕ) → x < w → Names (turn w h slices done) (address w x y) → Starts w slices done x y
+  pub turn-starts : (h x y : ℕ) → x < w → Names (turn w h slices done) (address w x y) → Startable w slices done x y
   turn-starts h x y hx n =
       let p = turn-named h (address w x y) n in
       let e = place-same x y (p .at .x) (p .y) hx (p .at .in-w) (p .at .is) in
-      subst₂ (Starts w slices done) (e .0) (e .1) (p .at .starts)
+      subst₂ (Startable w slices done) (e .0) (e .1) (p .at .starts)
 
   pub turn-rows : (h a b : ℕ) → Names (turn w h slices done) a → Names (turn w h slices done) b → a / w ≡ b / w → a ≡ b
   turn-rows h a b m n e =
       let p = turn-named h a m in
       let q = turn-named h b n in
       let r : q .y ≡ p .y = sym (row (q .y) b (q .at)) ∙ sym e ∙ row (p .y) a (p .at) in
-      let t = subst (λ y. StartsAt y b) r (q .at) in
+      let t = subst (λ y. StartableAt y b) r (q .at) in
       p .at .is
       ∙ ap (λ i. address w i (p .y)) (sym (starts-gapless (p .at .x) (p .y) (p .at .in-w) (p .at .starts)) ∙ starts-gapless (t .x) (p .y) (t .in-w) (t .starts))
       ∙ sym (t .is)
     where
-      row : (y c : ℕ) → StartsAt y c → c / w ≡ y
+      row : (y c : ℕ) → StartableAt y c → c / w ≡ y
       row y c k = ap (λ i. i / w) (k .is) ∙ digits-div y (k .in-w)
 
   -- the first undone macroblock is in it

@@ -1,0 +1,39 @@
+// The turn list: which macroblocks may start now. Both calls read the maps, and write nothing of the picture.
+ghost use mathlib.Core.Path.{_≡_};
+ghost use mathlib.Core.List.{List};
+ghost use Prim.Native.Nat.{ℕ};
+ghost use lib.ListN.{length};
+ghost use Rattle.laws.specs.Answer.{written};
+ghost use Rattle.calls.specs.Run.{Picture};
+ghost use Rattle.turn_list.specs.Agreed.{Agreed};
+ghost use Rattle.turn_list.specs.Turn.{rowCounts, countAnswer, turn, over, turnAnswer};
+ghost use Rattle.turns.specs.OneTurn.{OneTurn};
+
+// Counts that were counted are never refused, and counts that are off always are.
+#[no_mangle]
+pub extern "C" fn jiwarbend_count_rows(w: u32, h: u32, done: &[u8], rows: &mut [u32]) -> u32
+    ensures { λ r. ⌜ r ≡ countAnswer w h (length (now (done .entry))) (length (now (rows .entry))) ⌝ }
+    ensures { λ r. ⌜ now (rows .exit) ≡ written r (now (rows .entry)) (rowCounts w h (now (done .entry))) ⌝ }
+    ensures { λ _. ⌜ ((slices : List ℕ) → Agreed w h slices (now (done .entry))) ⌝ }
+{
+    turn_list::rows::count_rows(w, h, done, rows)
+}
+
+// There is a turn while a macroblock is undone; whoever takes its macroblocks, in whatever order, meets no refusal and leaves the same.
+#[no_mangle]
+pub extern "C" fn jiwarbend_turn(
+    w: u32,
+    h: u32,
+    done: &[u8],
+    slices: &[u16],
+    rows: &[u32],
+    list: &mut [u32],
+    how_many: &mut u32,
+) -> u32
+    ensures { λ r. ⌜ r ≡ turnAnswer w h (now (slices .entry)) (now (done .entry)) (now (rows .entry)) (length (now (list .entry))) ⌝ }
+    ensures { λ r. ⌜ now (list .exit) ≡ written r (now (list .entry)) (over (turn w h (now (slices .entry)) (now (done .entry))) (now (list .entry))) ⌝ }
+    ensures { λ r. ⌜ now («how_many» .exit) ≡ written r (now («how_many» .entry)) (length (turn w h (now (slices .entry)) (now (done .entry)))) ⌝ }
+    ensures { λ _. ⌜ ((g : Picture) → OneTurn g) ⌝ }
+{
+    turn_list::turn::turn(w, h, done, slices, rows, list, how_many)
+}
