@@ -256,15 +256,23 @@ fn main() -> Result<(), &'static str> {
     let mut numbers = words.map(|word| word.parse().expect("a number"));
     let (seconds, workers) = (numbers.next().unwrap_or(60), numbers.next().unwrap_or(4));
     let told = run(Duration::from_secs(seconds), workers);
+    println!("worker  macroblocks  abandoned  pictures  without work  refused with 1, 2, .., 9");
     for (k, one) in told.iter().enumerate() {
+        // How long it had no work while there was a turn.
+        let without = format!("{:?}", one.stood_still);
+        let refused: Vec<String> = one.refused[1..].iter().map(u64::to_string).collect();
         println!(
-            "worker {}: {} macroblocks done, {} abandoned, {} pictures finished, {:?} without work while there was a turn, refusals 1 to 9: {:?}",
-            k + 1, one.done, one.abandoned, one.finished, one.stood_still, &one.refused[1..]
+            "{:6}  {:11}  {:9}  {:8}  {without:>12}  {}",
+            k + 1,
+            one.done,
+            one.abandoned,
+            one.finished,
+            refused.join(" ")
         );
     }
     let all = |of: fn(&Told) -> u64| told.iter().map(of).sum::<u64>();
     println!(
-        "{LOBBIES} lobbies, {workers} workers, {seconds} seconds: {} macroblocks done, {} abandoned, {} pictures restarted, {} empty turns before the end",
+        "{LOBBIES} lobbies in {seconds} seconds: {} macroblocks, {} abandoned, {} pictures restarted, {} empty turns before the end",
         all(|t| t.done), all(|t| t.abandoned), all(|t| t.restarted), all(|t| t.empty_turns)
     );
     println!(

@@ -1,4 +1,5 @@
-/* Rebuilds a picture of 4 by 3 macroblocks whose macroblocks come in reverse order, in C99. `make examples` compiles, links and runs it:
+/* Rebuilds a picture of 4 by 3 macroblocks whose macroblocks come in reverse order, and once more turn by turn, in C99. `make examples` compiles, links
+   and runs it:
 
      cc -std=c99 -Iinclude examples/rebuild.c build/lib/libjiwarbend.a -o rebuild
 
@@ -65,9 +66,27 @@ static unsigned offer_all(struct picture *p, const struct record *records)
     return offers;
 }
 
+/* Takes whole turns until all is done. None of their macroblocks is refused, in whatever order they come. Returns the number of turns, or 0. */
+static unsigned take_turns(struct picture *p, const struct record *records)
+{
+    uint32_t rows[H], list[H], how_many;
+    unsigned turns = 0;
+    while (p->progress.count < MANY) {
+        if (jiwarbend_count_rows(W, H, p->done, MANY, rows, H) != JIWARBEND_OK)
+            return 0;
+        if (jiwarbend_turn(W, H, p->done, MANY, p->slices, MANY, rows, H, list, H, &how_many) != JIWARBEND_OK)
+            return 0;
+        for (uint32_t k = how_many; k-- > 0;)
+            if (rebuild(p, list[k] % W, list[k] / W, &records[list[k]]) != JIWARBEND_OK)
+                return 0;
+        turns++;
+    }
+    return turns;
+}
+
 int main(void)
 {
-    static struct picture p;
+    static struct picture p, q;
     static struct record records[MANY];
     for (int a = 0; a < MANY; a++)
         records[a] = flat(a == 0 ? -28 : 1);
@@ -91,6 +110,15 @@ int main(void)
     /* The first is 128 - 28. Each other is one more than the mean of what stands above and to the left of it. */
     if (p.luma[0][0] != 100 || p.luma[0][16] != 101 || p.luma[16][16] != 102 || p.luma[47][63] != 105)
         return 1;
+
+    /* The same picture turn by turn. The first macroblock of a row waits for the second of the row above: two turns more for each row. */
+    memset(q.slices, 0, sizeof q.slices);
+    if (jiwarbend_start(W, H, q.done, MANY, &q.progress) != JIWARBEND_OK || take_turns(&q, records) != W + 2 * (H - 1))
+        return 1;
+    if (memcmp(p.luma, q.luma, sizeof p.luma) != 0 || memcmp(p.cb, q.cb, sizeof p.cb) != 0 || memcmp(p.cr, q.cr, sizeof p.cr) != 0)
+        return 1;
+    printf("the same turn by turn, in %d turns\n", W + 2 * (H - 1));
+
     /* A done macroblock is final. */
     return rebuild(&p, 0, 0, &records[0]) == JIWARBEND_DONE ? 0 : 1;
 }

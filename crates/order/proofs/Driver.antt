@@ -1,15 +1,15 @@
 -- A run of calls does what the permitted order of its taken calls does. Assumes nothing.
 use mathlib.Core.Path.{_≡_, refl, sym, ap, ap₂, subst, _∙_}
 use mathlib.Core.Logic.{inl, inr}
-use mathlib.Core.List.{List, [], _∷_, _++_, map}
-use Prim.Native.Nat.{ℕ, zero, suc, _<_, _≤_}
+use mathlib.Core.List.{List, [], _∷_, _++_, map, head-eq-of-cons-eq, tail-eq-of-cons-eq}
+use Prim.Native.Nat.{ℕ, zero, suc, _+_, _<_, _≤_, min}
 use native.Mathlib.Omega.{arith}
 use lib.ListN.{length, set, replicate, length-set, length-replicate}
 use Rattle.laws.specs.Answer.{written}
 use Rattle.laws.specs.Steps.{upTo}
 use Rattle.order.specs.Lists.{Names}
 use Rattle.order.specs.Order.{Alike, Laws, Done, AllDone, Ready, First, build, marked, Permitted, undoneFrom, raster, ones}
-use Rattle.order.specs.Driver.{Driver, View, Started, Fair, after, play, answers, Carries, Spares, Offers}
+use Rattle.order.specs.Driver.{Driver, View, Started, Fair, after, play, answers, takenBy, Carries, Spares, Offers}
 use Rattle.order.proofs.Settled.{done-still, untouched, ok-run}
 use Rattle.order.proofs.Count.{ones-set, ones-le, ones-none, full-done}
 use Rattle.order.proofs.Orders.{permitted-undone}
@@ -47,34 +47,71 @@ module _ {S C M : Type 0} {D : Driver S C} {U : View S M} {n : ℕ} {addr : C �
       go zero e = subst (λ m. Done m a) (sym (done-after c s e)) (done-still (U .done s) (addr c) a (rw l (F .takes c s e l .0)) d)
       go (suc r) e = subst (λ u. Done (U .done u) a) (sym (after-is c s e)) d
 
+  -- the steps that a run takes, by the first call's answer
+  taken-first : (c : C) (cs : List C) (s : S) {r : ℕ} → D .answer c s ≡ r
+      → takenBy D addr (c ∷ cs) s ≡ written r (takenBy D addr cs (after D c s)) (addr c ∷ takenBy D addr cs (after D c s))
+  taken-first c cs s e = ap (λ r. written r (takenBy D addr cs (after D c s)) (addr c ∷ takenBy D addr cs (after D c s))) e
+
   module _ (step : ℕ → M → M) (N : ℕ → ℕ → Type 0) where
-    -- a run and the order of the steps that it took
+    -- a run does what the steps that it takes do, and their order is permitted
     pub record Ran (cs : List C) (s : S) : Type 0 where
-      pub order : List ℕ
-      pub permitted : Permitted n N order (U .done s)
-      pub memory : U .memory (play D cs s) ≡ build step order (U .memory s)
-      pub done : U .done (play D cs s) ≡ marked order (U .done s)
+      pub permitted : Permitted n N (takenBy D addr cs s) (U .done s)
+      pub memory : U .memory (play D cs s) ≡ build step (takenBy D addr cs s) (U .memory s)
+      pub done : U .done (play D cs s) ≡ marked (takenBy D addr cs s) (U .done s)
 
     pub ran : (cs : List C) (s : S) → length (U .done s) ≡ n → Carries D U n addr waits step N cs s → Ran cs s
-    ran [] s l k = record { order = []; permitted = tt; memory = refl; done = refl }
+    ran [] s l k = record { permitted = tt; memory = refl; done = refl }
     ran (c ∷ cs) s l k = go (D .answer c s) refl (ran cs (after D c s) (long-after c s l) (k .1))
       where
+        rest : List ℕ
+        rest = takenBy D addr cs (after D c s)
+
         go : (r : ℕ) → D .answer c s ≡ r → Ran cs (after D c s) → Ran (c ∷ cs) s
         go zero e t = record {
-          order = addr c ∷ t .order;
-          permitted = (f .0, f .1, (λ b w. f .2 b (k .0 e .awaits b w)), subst (Permitted n N (t .order)) (done-after c s e) (t .permitted));
-          memory = t .memory ∙ ap (λ u. build step (t .order) (U .memory u)) (after-is c s e) ∙ ap (build step (t .order)) (k .0 e .does);
-          done = t .done ∙ ap (marked (t .order)) (done-after c s e);
+          permitted = subst (λ o. Permitted n N o (U .done s)) (sym more)
+              (f .0, f .1, (λ b w. f .2 b (k .0 e .awaits b w)), subst (Permitted n N rest) (done-after c s e) (t .permitted));
+          memory = t .memory ∙ ap (λ u. build step rest (U .memory u)) (after-is c s e) ∙ ap (build step rest) (k .0 e .does)
+              ∙ ap (λ o. build step o (U .memory s)) (sym more);
+          done = t .done ∙ ap (marked rest) (done-after c s e) ∙ ap (λ o. marked o (U .done s)) (sym more);
         }
           where
+            more : takenBy D addr (c ∷ cs) s ≡ addr c ∷ rest
+            more = taken-first c cs s e
+
             f : (addr c < n) × (¬ Done (U .done s) (addr c)) × ((b : ℕ) → waits c b → Done (U .done s) b)
             f = F .takes c s e l
         go (suc r) e t = record {
-          order = t .order;
-          permitted = subst (λ u. Permitted n N (t .order) (U .done u)) (after-is c s e) (t .permitted);
-          memory = t .memory ∙ ap (λ u. build step (t .order) (U .memory u)) (after-is c s e);
-          done = t .done ∙ ap (λ u. marked (t .order) (U .done u)) (after-is c s e);
+          permitted = subst (λ o. Permitted n N o (U .done s)) (sym same) (subst (λ u. Permitted n N rest (U .done u)) (after-is c s e) (t .permitted));
+          memory = t .memory ∙ ap (λ u. build step rest (U .memory u)) (after-is c s e) ∙ ap (λ o. build step o (U .memory s)) (sym same);
+          done = t .done ∙ ap (λ u. marked rest (U .done u)) (after-is c s e) ∙ ap (λ o. marked o (U .done s)) (sym same);
         }
+          where
+            same : takenBy D addr (c ∷ cs) s ≡ rest
+            same = taken-first c cs s e
+
+  -- calls for given steps that are all taken
+  pub taken-all : (offer : ℕ → C) → ((a : ℕ) → addr (offer a) ≡ a) → (o : List ℕ) (s : S) → answers D (map offer o) s ≡ replicate (length o) 0
+      → takenBy D addr (map offer o) s ≡ o
+  taken-all offer is [] s e = refl
+  taken-all offer is (a ∷ o) s e =
+      taken-first (offer a) (map offer o) s (head-eq-of-cons-eq e) ∙ ap₂ (λ b l. b ∷ l) (is a) (taken-all offer is o (after D (offer a) s) (tail-eq-of-cons-eq e))
+
+  -- it counts them, up to n
+  pub taken-count : (cs : List C) (s : S) → length (U .done s) ≡ n → U .count s ≤ n → U .count (play D cs s) ≡ min (U .count s + length (takenBy D addr cs s)) n
+  taken-count [] s l few = omega arith
+  taken-count (c ∷ cs) s l few = go (D .answer c s) refl (taken-count cs (after D c s) (long-after c s l))
+    where
+      rest : List ℕ
+      rest = takenBy D addr cs (after D c s)
+
+      go : (r : ℕ) → D .answer c s ≡ r → (U .count (after D c s) ≤ n → U .count (play D cs (after D c s)) ≡ min (U .count (after D c s) + length rest) n)
+          → U .count (play D cs (after D c s)) ≡ min (U .count s + length (takenBy D addr (c ∷ cs) s)) n
+      go zero e ih =
+          let one : U .count (after D c s) ≡ min (U .count s + 1) n = ap (U .count) (after-is c s e) ∙ F .counts c s e l in
+          omega (arith, one, ih (omega (arith, one)), ap length (taken-first c cs s e))
+      go (suc r) e ih =
+          let none = ap (U .count) (after-is c s e) in
+          omega (arith, none, ih (omega (arith, none)), ap length (taken-first c cs s e))
 
   -- the count equals the ones of the map, whatever the calls
   pub record Counted (s : S) : Type 0 where
@@ -125,26 +162,26 @@ module _ {S C M : Type 0} {D : Driver S C} {U : View S M} {n : ℕ} {addr : C �
       t : Ran step N cs s
       t = ran step N cs s (long-start st) k
 
-      allowed : Permitted n N (t .order) (replicate n 0)
-      allowed = subst (Permitted n N (t .order)) (st .empty) (t .permitted)
+      allowed : Permitted n N (takenBy D addr cs s) (replicate n 0)
+      allowed = subst (Permitted n N (takenBy D addr cs s)) (st .empty) (t .permitted)
 
-      ends : U .done (play D cs s) ≡ marked (t .order) (replicate n 0)
-      ends = t .done ∙ ap (marked (t .order)) (st .empty)
+      ends : U .done (play D cs s) ≡ marked (takenBy D addr cs s) (replicate n 0)
+      ends = t .done ∙ ap (marked (takenBy D addr cs s)) (st .empty)
 
       -- a step that is done holds what the order 0, 1, .. gives, whatever the two memories held before
       pub done-is-raster : (q : M) → ok q → (a : ℕ) → a < n → Done (U .done (play D cs s)) a → Alike at (R a) (U .memory (play D cs s)) (upTo step n q)
-      done-is-raster q kq a ha dn i r = ap (λ m. at m i) (t .memory) ∙ done-agrees L (t .order) (U .memory s) q kp kq allowed a ha (subst (λ d. Done d a) ends dn) i r
+      done-is-raster q kq a ha dn i r = ap (λ m. at m i) (t .memory) ∙ done-agrees L (takenBy D addr cs s) (U .memory s) q kp kq allowed a ha (subst (λ d. Done d a) ends dn) i r
 
       -- a place in no region keeps what it held
       pub padding-kept : (i : I) → ((a : ℕ) → a < n → ¬ R a i) → at (U .memory (play D cs s)) i ≡ at (U .memory s) i
-      padding-kept i h = ap (λ m. at m i) (t .memory) ∙ untouched L (t .order) (U .memory s) (replicate n 0) kp allowed i h
+      padding-kept i h = ap (λ m. at m i) (t .memory) ∙ untouched L (takenBy D addr cs s) (U .memory s) (replicate n 0) kp allowed i h
 
       -- when all is done, every place holds what the order 0, 1, .. gives, those in no region too
       pub whole-is-raster : ((i : I) → Dec ((a : ℕ) × (a < n) × R a i)) → AllDone n (U .done (play D cs s)) → (i : I) → at (U .memory (play D cs s)) i ≡ at (upTo step n (U .memory s)) i
-      whole-is-raster tell all i = ap (λ m. at m i) (t .memory) ∙ any-order L tell (t .order) (U .memory s) kp allowed (λ a h. subst (λ d. Done d a) ends (all a h)) i
+      whole-is-raster tell all i = ap (λ m. at m i) (t .memory) ∙ any-order L tell (takenBy D addr cs s) (U .memory s) kp allowed (λ a h. subst (λ d. Done d a) ends (all a h)) i
 
       pub ok-kept : ok (U .memory (play D cs s))
-      ok-kept = subst ok (sym (t .memory)) (ok-run L (t .order) (U .memory s) (replicate n 0) kp allowed)
+      ok-kept = subst ok (sym (t .memory)) (ok-run L (takenBy D addr cs s) (U .memory s) (replicate n 0) kp allowed)
 
   -- ---- never stuck: whatever calls came before, a call with all that it needs is taken
   module _ {ok : M → Type 0} (K : Spares D U n addr ok) where

@@ -25,6 +25,11 @@ module _ {S C : Type 0} (D : Driver S C) where
   answers [] s = []
   answers (c ∷ cs) s = D .answer c s ∷ answers cs (after c s)
 
+  -- the steps that a run takes, in their order
+  abbrev pub takenBy : (C → ℕ) → List C → S → List ℕ
+  takenBy addr [] s = []
+  takenBy addr (c ∷ cs) s = let rest = takenBy addr cs (after c s) in written (D .answer c s) rest (addr c ∷ rest)
+
 -- what a state shows: the memory, the map of done steps, and how many have been taken
 pub record View (S M : Type 0) : Type 0 where
   pub memory : S → M

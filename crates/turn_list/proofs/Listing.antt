@@ -21,7 +21,7 @@ use Rattle.turn_list.specs.inner.Rows.{RowsAgree, mayStartAt, RowPut}
 start-at : (p : Spot) (slices done rows : List ℕ) → RowsAgree (p .w) (p .h) slices done rows → p .y < p .h → mayStartAt p slices done ≡ mayStart (p .w) slices done (p .x) (p .y)
 start-at p slices done rows r l =
     and-same (ltb (p .x) (p .w)) (λ t. ap (λ m. allSettled (p .w) (p .x) (p .y) m done)
-    (marks-at (p .w) (p .h) slices (p .x) (p .y) (r .mapped .size) (r .slices-long) (record { in-w = ltb-true (p .x) (p .w) t; in-h = l })))
+    (marks-at (p .w) (p .h) slices (p .x) (p .y) (r .fitting .size) (r .slices-long) (record { in-w = ltb-true (p .x) (p .w) t; in-h = l })))
 
 module _ (w : ℕ) (slices done list : List ℕ) where
   pub record Listing (y k : ℕ) (now : List ℕ) : Type 0 where

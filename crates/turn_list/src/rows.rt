@@ -5,9 +5,8 @@ ghost use Prim.Native.Nat.{_+_, _*_, _≤_, _<_};
 ghost use lib.ListN.{length};
 ghost use Rattle.laws.specs.Answer.{written};
 ghost use Rattle.laws.specs.Table.{allBelow};
-ghost use Rattle.maps.specs.Done.{isDone};
 ghost use Rattle.turn_list.specs.Turn.{rowCounts, countAnswer, agreeRule};
-ghost use Rattle.turn_list.specs.inner.Rows.{RowCount, Fitting};
+ghost use Rattle.turn_list.specs.inner.Rows.{doneFrom, RowCount, Fitting};
 use basics::tests::both;
 use maps::size::size_ok;
 
@@ -77,7 +76,7 @@ fn done_from_left(done: &[u8], w: usize, y: usize) -> usize
 // How many of w macroblocks from `first` on lie in groups of sixteen that are all done, without a gap.
 fn done_groups(done: &[u8], w: usize, first: usize) -> usize
     requires { ⌜ (w ≤ 120) × (first + w ≤ length (now done)) ⌝ }
-    ensures { λ r. ⌜ (r ≤ w) × (allBelow r (λ i. isDone (now (done .entry)) (first + i)) ≡ true) ⌝ }
+    ensures { λ r. ⌜ (r ≤ w) × (allBelow r (doneFrom (now (done .entry)) first) ≡ true) ⌝ }
 {
     let mut x = 0;
     while x + 16 <= w {
@@ -92,7 +91,7 @@ fn done_groups(done: &[u8], w: usize, first: usize) -> usize
 // Whether the sixteen macroblocks from `at` on are all done. Without a way out they are looked at side by side.
 fn sixteen_done(done: &[u8], at: usize) -> bool
     requires { ⌜ at + 16 ≤ length (now done) ⌝ }
-    ensures { λ r. ⌜ r ≡ allBelow 16 (λ i. isDone (now (done .entry)) (at + i)) ⌝ }
+    ensures { λ r. ⌜ r ≡ allBelow 16 (doneFrom (now (done .entry)) at) ⌝ }
 {
     let mut all = true;
     let mut i = 0;

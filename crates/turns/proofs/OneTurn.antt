@@ -1,72 +1,27 @@
 -- A turn's macroblocks are undone, ready and apart, so that the picture's driver takes them in any order, and their squares change places. Assumes nothing.
-use mathlib.Core.Path.{_≡_, refl, sym, ap, ap₂, subst, _∙_}
+use mathlib.Core.Path.{_≡_, refl, sym, ap, subst, _∙_}
 use mathlib.Core.Bool.{true}
-use mathlib.Core.List.{List, [], _∷_, map, head-eq-of-cons-eq, tail-eq-of-cons-eq}
-use Prim.Native.Nat.{ℕ, zero, suc, _+_, _<_, _≤_, min}
+use mathlib.Core.List.{List, map}
+use Prim.Native.Nat.{ℕ, _+_, _<_, min}
 use native.Mathlib.Omega.{arith}
 use lib.ListN.{length, replicate}
 use lib.Seq.{ext-getD}
-use Rattle.laws.proofs.Answers.{put, kept}
-use Rattle.order.specs.Driver.{Fair, Spares, after, play, answers}
+use Rattle.order.specs.Driver.{Fair, Spares, play, answers}
 use Rattle.order.specs.Lists.{Names, Permutes}
 use Rattle.order.specs.Order.{Alike, Done, build, marked}
-use Rattle.order.proofs.Driver.{Sound, sound-play, taken-now, done-kept, order-taken}
+use Rattle.order.proofs.Driver.{Ran, ran, taken-all, taken-count, done-kept, Sound, sound-play, taken-now, order-taken}
 use Rattle.order.proofs.Lists.{names-permuted, length-permuted}
 use Rattle.order.proofs.Permuted.{marked-permuted, build-permuted}
 use Rattle.maps.specs.Progress.{startAnswer}
-use Rattle.maps.specs.Size.{total}
 use Rattle.calls.specs.Planes.{Plane, side, planeOk}
-use Rattle.calls.specs.Rebuild.{Call, Lent, here, Acceptable, answerTo, squareIn, rebuilt}
-use Rattle.calls.specs.Run.{Picture, totalOf, offer, Waits, Lends, Planes, Location, sampleAt, Region, driver, Own}
+use Rattle.calls.specs.Rebuild.{Call, Lent, here, Acceptable, answerTo}
+use Rattle.calls.specs.Run.{Picture, totalOf, offer, Waits, Lends, Planes, Location, sampleAt, Region, driver}
 use Rattle.calls.proofs.AnyOrder.{own-offers}
-use Rattle.calls.proofs.OnePicture.{view, fair, spares, step, offer-here, Depends, bytes, Good, sized, awaits-smaller, laws, told, acceptable}
+use Rattle.calls.proofs.OnePicture.{view, fair, spares, step, offer-here, Depends, carries, bytes, Good, sized, awaits-smaller, laws, told, acceptable}
 use Rattle.calls.proofs.Squares.{depends-marked}
 use Rattle.turn_list.proofs.Startable.{turn-starts, turn-names, turn-rises, turn-rows, turn-short}
 use Rattle.turns.specs.OneTurn.{turnOf, rebuiltAt, WellLent, acceptedBy, TakesTurn, SameButLast, OneTurn}
 use Rattle.turns.proofs.Begun.{turn-begins, turn-apart, turn-ready, turn-permitted, turn-has-first, turn-some}
-
--- ---- what a run leaves, by the macroblocks that it accepts
-module _ (g : Picture) where
-  pub record Left (cs : List Call) (s : Lent) : Type 0 where
-    pub planes : play driver cs s .planes ≡ build (step g) (acceptedBy cs s) (s .planes)
-    pub done : play driver cs s .done ≡ marked (acceptedBy cs s) (s .done)
-    pub count : play driver cs s .progress .count ≡ min (s .progress .count + length (acceptedBy cs s)) (totalOf g)
-
-  left : (cs : List Call) (s : Lent) → s .progress .count ≤ totalOf g → Own g cs s → Left cs s
-  left [] s few o = record { planes = refl; done = refl; count = omega arith }
-  left (c ∷ cs) s few o = go (answerTo c s) refl (λ l. left cs (after driver c s) l (o .1))
-    where
-      go : (r : ℕ) → answerTo c s ≡ r → (after driver c s .progress .count ≤ totalOf g → Left cs (after driver c s)) → Left (c ∷ cs) s
-      go zero e ih =
-          let is : after driver c s ≡ rebuilt c s = put s (rebuilt c s) e in
-          let more : acceptedBy (c ∷ cs) s ≡ here c ∷ acceptedBy cs (after driver c s) = put (acceptedBy cs (after driver c s)) (here c ∷ acceptedBy cs (after driver c s)) e in
-          let own = o .0 e in
-          let one : after driver c s .progress .count ≡ min (s .progress .count + 1) (totalOf g) =
-          ap (λ t. t .progress .count) is ∙ ap (λ d. min (s .progress .count + 1) (total (d .width) (d .height))) own in
-          let rest = ih (omega (arith, one)) in
-          record {
-            planes = rest .planes ∙ ap (λ t. build (step g) (acceptedBy cs (after driver c s)) (t .planes)) is
-                ∙ ap (λ d. build (step g) (acceptedBy cs (after driver c s)) (λ p. squareIn d p (s .planes p))) own
-                ∙ ap (λ l. build (step g) l (s .planes)) (sym more);
-            done = rest .done ∙ ap (λ t. marked (acceptedBy cs (after driver c s)) (t .done)) is ∙ ap (λ l. marked l (s .done)) (sym more);
-            count = rest .count ∙ omega (arith, one, ap length more);
-          }
-      go (suc r) e ih =
-          let is : after driver c s ≡ s = kept r s (rebuilt c s) e in
-          let same : acceptedBy (c ∷ cs) s ≡ acceptedBy cs (after driver c s) = kept r (acceptedBy cs (after driver c s)) (here c ∷ acceptedBy cs (after driver c s)) e in
-          let rest = ih (omega (arith, ap (λ t. t .progress .count) is)) in
-          record {
-            planes = rest .planes ∙ ap (λ t. build (step g) (acceptedBy cs (after driver c s)) (t .planes)) is ∙ ap (λ l. build (step g) l (s .planes)) (sym same);
-            done = rest .done ∙ ap (λ t. marked (acceptedBy cs (after driver c s)) (t .done)) is ∙ ap (λ l. marked l (s .done)) (sym same);
-            count = rest .count ∙ ap₂ (λ n l. min (n + length l) (totalOf g)) (ap (λ t. t .progress .count) is) (sym same);
-          }
-
-  -- offers that are all accepted
-  accepted-offers : (o : List ℕ) (s : Lent) → answers driver (map (offer g) o) s ≡ replicate (length o) 0 → acceptedBy (map (offer g) o) s ≡ o
-  accepted-offers [] s e = refl
-  accepted-offers (a ∷ o) s e =
-      put (acceptedBy (map (offer g) o) (after driver (offer g a) s)) (here (offer g a) ∷ acceptedBy (map (offer g) o) (after driver (offer g a) s)) (head-eq-of-cons-eq e)
-      ∙ ap₂ (λ b l. b ∷ l) (offer-here g a) (accepted-offers o (after driver (offer g a) s) (tail-eq-of-cons-eq e))
 
 -- ---- what is lent
 module _ (g : Picture) (s : Lent) (k : WellLent g s) where
@@ -136,20 +91,27 @@ module _ (g : Picture) (s : Lent) (k : WellLent g s) (o : List ℕ) (p : Permute
       (turn-permitted g (s .done) o (sized g s (k .lends) .1) p) .0
 
   takes : TakesTurn g s (map (offer g) o)
-  takes = record { holds = k; own = own-offers g o s; permutes = subst (λ l. Permutes l (turnOf g (s .done))) (sym (accepted-offers g o s taken)) p }
+  takes = record {
+    holds = k;
+    own = own-offers g o s;
+    permutes = subst (λ l. Permutes l (turnOf g (s .done))) (sym (taken-all (fairly g s k) (offer g) (offer-here g) o s taken)) p;
+  }
 
 module _ (g : Picture) (s : Lent) (cs : List Call) (t : TakesTurn g s cs) where
-  went : Left g cs s
-  went = left g cs s (t .holds .few) (t .own)
+  long : length (s .done) ≡ totalOf g
+  long = sized g s (t .holds .lends) .1
+
+  went : Ran (fair (totalOf g)) (step g) (Depends g) cs s
+  went = ran (fair (totalOf g)) (step g) (Depends g) cs s long (carries g cs s (t .own))
 
   done : play driver cs s .done ≡ marked (turnOf g (s .done)) (s .done)
   done = went .done ∙ marked-permuted (t .permutes) (s .done)
 
   planes : play driver cs s .planes ≡ build (step g) (turnOf g (s .done)) (s .planes)
-  planes = went .planes ∙ squares-permuted g s (t .holds .lends) (acceptedBy cs s) (t .permutes)
+  planes = went .memory ∙ squares-permuted g s (t .holds .lends) (acceptedBy cs s) (t .permutes)
 
   counts : play driver cs s .progress .count ≡ min (s .progress .count + length (turnOf g (s .done))) (totalOf g)
-  counts = went .count ∙ ap (λ n. min (s .progress .count + n) (totalOf g)) (length-permuted (t .permutes))
+  counts = taken-count (fair (totalOf g)) cs s long (t .holds .few) ∙ ap (λ n. min (s .progress .count + n) (totalOf g)) (length-permuted (t .permutes))
 
   again : WellLent g (play driver cs s)
   again = holds-sound g s (t .holds) (play driver cs s) (sound-play (fairly g s (t .holds)) (sparing g s (t .holds)) cs s (sound g s (t .holds)))

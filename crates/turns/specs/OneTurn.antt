@@ -2,11 +2,10 @@
 use mathlib.Core.Path.{_≡_}
 use mathlib.Core.Bool.{true}
 use mathlib.Core.Logic.{_↔_}
-use mathlib.Core.List.{List, [], _∷_, map}
+use mathlib.Core.List.{List, [], map}
 use Prim.Native.Nat.{ℕ, _+_, _/_, _%_, _<_, _≤_, min}
 use lib.ListN.{length, replicate}
-use Rattle.laws.specs.Answer.{written}
-use Rattle.order.specs.Driver.{after, play, answers}
+use Rattle.order.specs.Driver.{play, answers, takenBy}
 use Rattle.order.specs.Lists.{Names, Rises, Permutes}
 use Rattle.order.specs.Order.{Alike, Done, AllDone, First, marked}
 use Rattle.maps.specs.Neighbours.{Side, beside}
@@ -35,8 +34,7 @@ pub record WellLent (g : Picture) (s : Lent) : Type 0 where
 
 -- ---- a run of calls with any arguments: the macroblocks that it accepts, in their order
 abbrev pub acceptedBy : List Call → Lent → List ℕ
-acceptedBy [] s = []
-acceptedBy (c ∷ cs) s = let rest = acceptedBy cs (after driver c s) in written (answerTo c s) rest (here c ∷ rest)
+acceptedBy cs s = takenBy driver here cs s
 
 -- it accepts the macroblocks of a turn, in whatever order, each with its own record, and refuses everything else
 pub record TakesTurn (g : Picture) (s : Lent) (cs : List Call) : Type 0 where

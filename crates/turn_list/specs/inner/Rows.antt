@@ -5,11 +5,15 @@ use mathlib.Core.List.{List}
 use Prim.Native.Nat.{ℕ, _+_, _≤_, _<_}
 use lib.Dec.{ltb}
 use lib.ListN.{length, getD, set}
-use Rattle.maps.specs.Done.{allSettled}
+use Rattle.maps.specs.Done.{isDone, allSettled}
 use Rattle.maps.specs.Neighbours.{marksAt}
 use Rattle.maps.specs.Size.{Size, total, address}
 use Rattle.maps.specs.declared.size.Spot.{Spot}
 use Rattle.turn_list.specs.Turn.{gapless}
+
+-- macroblock i of those from `first` on is done
+abbrev pub doneFrom : List ℕ → (first i : ℕ) → Bool
+doneFrom done first i = isDone done (first + i)
 
 -- a row's count
 pub record RowCount (w : ℕ) (done : List ℕ) (y r : ℕ) : Type 0 where
@@ -24,7 +28,7 @@ pub record Fitting (w h : ℕ) (done rows : List ℕ) : Type 0 where
 
 -- the same with the slice map, and the counts agree
 pub record RowsAgree (w h : ℕ) (slices done rows : List ℕ) : Type 0 where
-  pub mapped : Fitting w h done rows
+  pub fitting : Fitting w h done rows
   pub slices-long : length slices ≡ total w h
   pub agree : (y : ℕ) → y < h → getD rows y 0 ≡ gapless w done y
 

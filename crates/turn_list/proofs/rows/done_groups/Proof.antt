@@ -1,19 +1,16 @@
 -- `turn_list::rows::done_groups` meets its contract: sixteen more are done with each group. Assumes nothing.
 use mathlib.Core.Path.{_≡_, refl, sym, ap, _∙_}
-use mathlib.Core.Bool.{Bool, true}
-use mathlib.Core.List.{List}
-use Prim.Native.Nat.{ℕ, _+_, _-_, _≤_}
+use mathlib.Core.Bool.{true}
+use Prim.Native.Nat.{_+_, _-_, _≤_}
 use native.Mathlib.Omega.{arith}
 use borrow.Author.Needs.{needs}
 use borrow.Author.Tests.{not-false}
 use Rattle.laws.specs.Table.{allBelow}
 use Rattle.laws.proofs.Tests.{all-none, all-same, all-split, and-of}
 use Rattle.maps.specs.Done.{isDone}
+use Rattle.turn_list.specs.inner.Rows.{doneFrom}
 use Rattle.turn_list.proofs.rows.done_groups.Statement.{statement}
 use Rattle.turn_list.proofs.rows.done_groups.Tie as tie
-
-abbrev doneFrom : List ℕ → ℕ → ℕ → Bool
-doneFrom done first i = isDone done (first + i)
 
 abbrev Inv-loop : tie.InvT-loop
 Inv-loop done w first x₀ x = (x ≤ w) × (allBelow x (doneFrom done first) ≡ true)

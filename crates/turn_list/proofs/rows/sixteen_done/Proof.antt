@@ -1,18 +1,14 @@
 -- `turn_list::rows::sixteen_done` meets its contract: after i macroblocks `all` tells whether those are done. Assumes nothing.
 use mathlib.Core.Path.{_≡_, refl, sym, ap, subst, _∙_}
-use mathlib.Core.Bool.{Bool, _&&_}
-use mathlib.Core.List.{List}
-use Prim.Native.Nat.{ℕ, _+_, _-_, _≤_}
+use mathlib.Core.Bool.{_&&_}
+use Prim.Native.Nat.{_+_, _-_, _≤_}
 use native.Mathlib.Omega.{arith}
 use borrow.Author.Needs.{needs}
 use Rattle.laws.specs.Table.{allBelow}
 use Rattle.laws.proofs.Tests.{all-none, all-next}
-use Rattle.maps.specs.Done.{isDone}
+use Rattle.turn_list.specs.inner.Rows.{doneFrom}
 use Rattle.turn_list.proofs.rows.sixteen_done.Statement.{statement}
 use Rattle.turn_list.proofs.rows.sixteen_done.Tie as tie
-
-abbrev doneFrom : List ℕ → ℕ → ℕ → Bool
-doneFrom done at i = isDone done (at + i)
 
 abbrev Inv-loop : tie.InvT-loop
 Inv-loop done at all₀ i₀ all i = (i ≤ 16) × (all ≡ allBelow i (doneFrom done at))

@@ -19,7 +19,7 @@ loop-holds : tie.Need-loop-holds Inv-loop μ-loop
 loop-holds c = let a = c .before .before .before .before .args in (omega arith, listing-none (a .w) (a .slices .now) (a .done .now) (a .list .now))
 
 shared-slice-read-x : tie.Need-shared-slice-read-x Inv-loop μ-loop
-shared-slice-read-x c = let s = c .before .before .before .before .before .before .before in omega (arith, s .pre .0 .mapped .rows-long)
+shared-slice-read-x c = let s = c .before .before .before .before .before .before .before in omega (arith, s .pre .0 .fitting .rows-long)
 
 list-row-requires : tie.Need-list-row-requires Inv-loop μ-loop
 list-row-requires c κs =
@@ -27,9 +27,9 @@ list-row-requires c κs =
     let s = c .before .before .before .before .before .before .before .before in
     let g = s .pre .0 in
     let low : l .y < s .args .h = omega arith in (
-      g .mapped .size .most-w,
-      omega (arith, g .mapped .size .most-h),
-      omega (arith, g .agree (l .y) low, gapless-is (s .args .w) (s .args .done .now) (l .y) .most, g .mapped .size .most-w),
+      g .fitting .size .most-w,
+      omega (arith, g .fitting .size .most-h),
+      omega (arith, g .agree (l .y) low, gapless-is (s .args .w) (s .args .done .now) (l .y) .most, g .fitting .size .most-w),
       omega (arith, l .inv .1 .most, l .inv .1 .long, s .pre .1),
     )
 

@@ -19,9 +19,9 @@ use Rattle.turn_list.proofs.turn.turn.Tie as tie
 sized : (c : tie.Else1) → let a = c .before .before .before .before .before .before .args in sizeOk (a .w) (a .h) ≡ true
 sized c = sym (c .before .size-ok .ensures) ∙ not-false _ (c .if1 .left)
 
-mapped : (c : tie.Else5) → let a = c .before .before .before .before .before .before .before .before .before .before .args in
+fits : (c : tie.Else5) → let a = c .before .before .before .before .before .before .before .before .before .before .args in
     Fitting (a .w) (a .h) (a .done .now) (a .rows .now)
-mapped c =
+fits c =
     let a = c .before .before .before .before .before .before .before .before .before .before .args in
     record { size = size-is (a .w) (a .h) (sized (c .before .before .before .before)); done-long = c .before .before .before .if2 .left; rows-long = c .before .if4 .left }
 
@@ -55,7 +55,7 @@ returns-5 c =
     )
 
 rows-agree-requires : tie.Need-rows-agree-requires
-rows-agree-requires c κs = mapped c
+rows-agree-requires c κs = fits c
 
 returns-6 : tie.Need-returns-6
 unfolding turnAnswer
@@ -79,7 +79,7 @@ list-turn-requires c κs =
     let f = g .before .before in
     let a = f .before .before .before .before .before .before .before .before .before .before .args in (
       record {
-        mapped = mapped f;
+        fitting = fits f;
         slices-long = f .before .before .if3 .left;
         agree = λ y h. eqb-true _ _ (all-at (a .h) (λ i. eqb (getD (a .rows .now) i 0) (gapless (a .w) (a .done .now) i))
             (sym (g .before .rows-agree .ensures) ∙ not-false _ (g .if6 .left)) y h);
