@@ -47,7 +47,7 @@ marked-permuted (join p q) d = marked-permuted p d ∙ marked-permuted q d
 module _ {M I X : Type 0} {at : M → I → X} {ok : M → Type 0} {n : ℕ} {R : ℕ → I → Type 0} {N : ℕ → ℕ → Type 0} {step : ℕ → M → M}
     (L : Laws at ok n R N step) where
   -- where a does not wait for b, it writes the same before b and after it
-  pub reads-past : (a b : ℕ) (p : M) → a < n → b < n → ok p → ¬ N a b → Alike at (R a) (step a p) (step a (step b p))
+  reads-past : (a b : ℕ) (p : M) → a < n → b < n → ok p → ¬ N a b → Alike at (R a) (step a p) (step a (step b p))
   reads-past a b p ha hb k free =
       L .reads a p (step b p) ha k (L .keeps b p hb k)
       (λ c w. elsewhere L b c p hb (lt-trans (L .earlier a c ha w) ha) k (λ q. free (subst (N a) q w)))

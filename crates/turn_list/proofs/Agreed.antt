@@ -1,17 +1,17 @@
 -- Counts that were counted agree, and those that are off do not. Assumes nothing.
-use mathlib.Core.Path.{_≡_, refl, sym, ap, _∙_}
+use mathlib.Core.Path.{_≡_, refl, ap, _∙_}
 use mathlib.Core.Bool.{Bool, true, false}
 use mathlib.Core.List.{List, [], _∷_}
 use Prim.Native.Nat.{ℕ, _<_}
 use lib.Dec.{eqb}
 use lib.ListN.{getD, length}
 use borrow.Author.Tests.{eq-eqb, ne-eqb}
-use Rattle.laws.specs.Answer.{_unless_, answer, written}
+use Rattle.laws.specs.Answer.{_unless_, answer}
 use Rattle.laws.proofs.Answers.{put, answer-later, answer-without-rule}
 use Rattle.laws.proofs.Tables.{length-table, getD-table}
 use Rattle.laws.proofs.Tests.{all-of, all-no}
 use Rattle.turn_list.specs.Agreed.{Agreed}
-use Rattle.turn_list.specs.Turn.{gapless, rowCounts, heightRule, agreeRule, countAnswer, mapRules, turnAnswer}
+use Rattle.turn_list.specs.Turn.{gapless, rowCounts, heightRule, agreeRule, mapRules, turnAnswer}
 
 module _ (w h : ℕ) (slices done : List ℕ) where
   right : turnAnswer w h slices done (rowCounts w h done) h ≡ answer (mapRules w h slices done)

@@ -1,8 +1,7 @@
 -- `turn_list::turn::list_turn` meets its contract: after y rows the list begins with the turn of a picture y rows high. Assumes nothing.
-use mathlib.Core.Path.{_≡_, sym, subst}
+use mathlib.Core.Path.{_≡_, subst}
 use Prim.Native.Nat.{_-_, _≤_, _<_}
 use native.Mathlib.Omega.{arith}
-use lib.ListN.{length}
 use borrow.Author.Needs.{needs}
 use Rattle.turn_list.proofs.Leading.{gapless-is}
 use Rattle.turn_list.proofs.Listing.{Listing, listing-none, listing-row}

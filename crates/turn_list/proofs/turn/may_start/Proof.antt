@@ -1,5 +1,5 @@
 -- `turn_list::turn::may_start` meets its contract: it asks `maps` for the marks, and whether those that are marked are done. Assumes nothing.
-use mathlib.Core.Path.{_≡_, sym, ap, _∙_}
+use mathlib.Core.Path.{ap, _∙_}
 use native.Mathlib.Omega.{arith}
 use borrow.Author.Needs.{needs}
 use borrow.Author.Tests.{lt-ltb, le-ltb}

@@ -1,7 +1,6 @@
 -- `turn_list::turn::turn` meets its contract: the rules are tested in the order of their numbers, and only then is anything written. Assumes nothing.
 use mathlib.Core.Path.{_≡_, refl, sym, _∙_}
 use mathlib.Core.Bool.{true}
-use Prim.Native.Nat.{_*_, _≤_, _<_}
 use native.Mathlib.Omega.{arith}
 use lib.Dec.{eqb}
 use lib.ListN.{getD}
