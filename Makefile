@@ -1,6 +1,6 @@
 # make demo            rebuilds a sample picture out of order and writes build/demo/jiwarbend.png
 # make test            the gate: every proof, every must-fail edit and every program, from nothing
-# make check           what a maintainer runs before a release beside the gate: everything from lib to diff below, and a short benchmark
+# make check           what a maintainer runs before a release beside the gate: the demo, everything from lib to diff below, and a short benchmark
 # make lib             build/lib/libjiwarbend.a, the proved library for the machine at hand (include/jiwarbend.h)
 # make symbols         the archive has the header's functions, no state, and needs nothing but memory copied and filled
 # make languages       in seconds and without the library: header, signatures, layout and examples of the other languages
@@ -45,8 +45,8 @@ demo: $(ARCHIVE)
 test:
 	.ci/run
 
-check: languages symbols rust-test examples diff bench-short
-	@echo "check: languages, symbols, tests, examples, differential runs and the short benchmark passed"
+check: demo languages symbols rust-test examples diff bench-short
+	@echo "check: demo, languages, symbols, tests, examples, differential runs and the short benchmark passed"
 
 lib: $(ARCHIVE)
 

@@ -17,10 +17,13 @@ impl Random {
 }
 
 /// How often each answer was given: 0 for accepted, then the refusals by number.
-#[derive(Default)]
-struct Account([usize; 9]);
+struct Account(Vec<usize>);
 
 impl Account {
+    fn new() -> Account {
+        Account(vec![0; Refusal::ALL.len() + 1])
+    }
+
     fn add(&mut self, answer: Result<(), Refusal>) {
         self.0[answer.err().map_or(0, |r| r.number() as usize)] += 1;
     }
@@ -92,7 +95,7 @@ fn main() {
     );
 
     let mut random = Random(2026);
-    let mut account = Account::default();
+    let mut account = Account::new();
     let mut picture = Picture::with_slices(w, h, coded.slices.clone()).expect("a size that fits");
     let mut told = 0;
     while !picture.is_finished() {
@@ -120,7 +123,7 @@ fn main() {
 
     let offers: usize = account.0.iter().sum();
     println!("offered {offers}, accepted {}, refused {}:", account.0[0], offers - account.0[0]);
-    for r in Refusal::ALL {
+    for r in Refusal::ALL.iter().filter(|r| account.0[r.number() as usize] > 0) {
         println!("  {} {:<52} {:>6}", r.number(), r.to_string(), account.0[r.number() as usize]);
     }
 
