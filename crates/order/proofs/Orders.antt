@@ -1,12 +1,13 @@
 -- Orders joined, the map that they leave, and what is undone before them. Assumes nothing.
 use mathlib.Core.Path.{_≡_, refl, sym, subst, _∙_}
-use mathlib.Core.Logic.{inl, inr}
+use mathlib.Core.Logic.{_⊎_, inl, inr}
 use mathlib.Core.List.{List, [], _∷_, _++_}
 use Prim.Native.Nat.{ℕ, _<_}
+use native.Mathlib.Decide.{ℕ-discrete}
 use lib.ListN.{set, length, length-set}
 use Rattle.order.specs.Lists.{Names}
 use Rattle.order.specs.Order.{Done, build, marked, Permitted}
-use Rattle.order.proofs.Settled.{done-still}
+use Rattle.order.proofs.Settled.{done-here, done-still, done-before}
 
 pub permitted-append : (n : ℕ) (N : ℕ → ℕ → Type 0) (o u d : List ℕ) → Permitted n N o d → Permitted n N u (marked o d) → Permitted n N (o ++ u) d
 permitted-append n N [] u d t v = v
@@ -23,6 +24,26 @@ build-append step (a ∷ o) u p = build-append step o u (step a p)
 pub length-marked : (o d : List ℕ) → length (marked o d) ≡ length d
 length-marked [] d = refl
 length-marked (a ∷ o) d = length-marked o (set d a 1) ∙ length-set d a 1
+
+-- the map that a list leaves: what was done stays so, what the list names is done, and nothing else
+pub marked-still : (o d : List ℕ) (a : ℕ) → ((b : ℕ) → Names o b → b < length d) → Done d a → Done (marked o d) a
+marked-still [] d a inside e = e
+marked-still (b ∷ o) d a inside e =
+    marked-still o (set d b 1) a (λ c n. rw length-set (inside c (inr n))) (done-still d b a (inside b (inl refl)) e)
+
+pub marked-named : (o d : List ℕ) (a : ℕ) → ((b : ℕ) → Names o b → b < length d) → Names o a → Done (marked o d) a
+marked-named (b ∷ o) d a inside (inl e) =
+    marked-still o (set d b 1) a (λ c n. rw length-set (inside c (inr n))) (rw e (done-here d b (inside b (inl refl))))
+marked-named (b ∷ o) d a inside (inr n) = marked-named o (set d b 1) a (λ c m. rw length-set (inside c (inr m))) n
+
+pub marked-only : (o d : List ℕ) (a : ℕ) → Done (marked o d) a → Done d a ⊎ Names o a
+marked-only [] d a e = inl e
+marked-only (b ∷ o) d a e = go (marked-only o (set d b 1) a e) (ℕ-discrete a b)
+  where
+    go : Done (set d b 1) a ⊎ Names o a → Dec (a ≡ b) → Done d a ⊎ Names (b ∷ o) a
+    go (inl g) (yes q) = inr (inl q)
+    go (inl g) (no q) = inl (done-before d b a q g)
+    go (inr n) q = inr (inr n)
 
 -- the steps of a permitted order are undone before it
 pub permitted-undone : (n : ℕ) (N : ℕ → ℕ → Type 0) (o d : List ℕ) → length d ≡ n → Permitted n N o d → (a : ℕ) → Names o a → (a < n) × ¬ Done d a

@@ -19,7 +19,7 @@ pub record Leads (n : ℕ) (f : ℕ → Bool) (k : ℕ) : Type 0 where
   pub all : (i : ℕ) → i < k → f i ≡ true
   pub stop : k < n → f k ≡ false
 
-leading-is : (n : ℕ) (f : ℕ → Bool) → Leads n f (leading n f)
+pub leading-is : (n : ℕ) (f : ℕ → Bool) → Leads n f (leading n f)
 unfolding leading
 leading-is zero f = record { most = zero-le; all = λ i h. absurd (not-suc-le-zero h); stop = λ h. absurd (not-suc-le-zero h) }
 leading-is (suc n) f = go (f 0) refl (leading-is n (λ k. f (suc k)))
