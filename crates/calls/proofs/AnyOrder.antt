@@ -28,7 +28,7 @@ same-run (offers c ∷ es) s q = same-run es (after driver c s) q
 same-run (starts w h ∷ es) s q =
     ap (passed es) (refused (startAnswer w h (length (s .done))) s _ (q .0)) ∙ same-run es s (q .1)
 
-own-append : (g : Picture) (cs ds : List Call) (s : Lent) → Own g cs s → Own g ds (play driver cs s) → Own g (cs ++ ds) s
+pub own-append : (g : Picture) (cs ds : List Call) (s : Lent) → Own g cs s → Own g ds (play driver cs s) → Own g (cs ++ ds) s
 own-append g [] ds s o u = u
 own-append g (c ∷ cs) ds s o u = (o .0, own-append g cs ds (after driver c s) (o .1) u)
 

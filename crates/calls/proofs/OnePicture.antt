@@ -91,7 +91,7 @@ module _ (g : Picture) where
     sized = start-is (g .width) (g .height) (length (s .done)) (lends .starts)
 
     -- starting clears the map and the count
-    begun-at : started g s ≡ record { planes = s .planes; done = replicate (length (s .done)) 0; progress = begun }
+    pub begun-at : started g s ≡ record { planes = s .planes; done = replicate (length (s .done)) 0; progress = begun }
     begun-at = put s (record { planes = s .planes; done = replicate (length (s .done)) 0; progress = begun }) (lends .starts)
 
     pub begins : Started driver view (totalOf g) here (started g s)

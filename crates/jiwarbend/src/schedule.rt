@@ -1,13 +1,16 @@
-// The turn list: which macroblocks may start now. Both calls read the maps, and write nothing of the picture.
+// The turn list: which macroblocks may start now, and how many turns a picture takes. The calls read the maps, and write nothing of the picture.
 ghost use mathlib.Core.Path.{_≡_};
 ghost use mathlib.Core.List.{List};
 ghost use Prim.Native.Nat.{ℕ};
 ghost use lib.ListN.{length};
 ghost use Rattle.laws.specs.Answer.{written};
 ghost use Rattle.calls.specs.Run.{Picture};
+ghost use Rattle.turn_count.specs.Count.{turnCount, turnCountAnswer};
+ghost use Rattle.turn_count.specs.HowMany.{HowMany};
 ghost use Rattle.turn_list.specs.Agreed.{Agreed};
 ghost use Rattle.turn_list.specs.Turn.{rowCounts, countAnswer, turn, over, turnAnswer};
 ghost use Rattle.turns.specs.OneTurn.{OneTurn};
+ghost use Rattle.turns.specs.TurnByTurn.{TurnByTurn};
 
 // Counts that were counted are never refused, and counts that are off always are.
 #[no_mangle]
@@ -36,4 +39,15 @@ pub extern "C" fn jiwarbend_turn(
     ensures { λ _. ⌜ ((g : Picture) → OneTurn g) ⌝ }
 {
     turn_list::turn::turn(w, h, done, slices, rows, list, how_many)
+}
+
+// How many turns a picture takes: so many whole turns finish it, whoever takes them and in whatever order, and no fewer.
+#[no_mangle]
+pub extern "C" fn jiwarbend_turns(w: u32, h: u32, slices: &[u16], turns: &mut u32) -> u32
+    ensures { λ r. ⌜ r ≡ turnCountAnswer w h (length (now (slices .entry))) ⌝ }
+    ensures { λ r. ⌜ now (turns .exit) ≡ written r (now (turns .entry)) (turnCount w h (now (slices .entry))) ⌝ }
+    ensures { λ r. ⌜ (r ≡ 0 → HowMany w h (now (slices .entry))) ⌝ }
+    ensures { λ _. ⌜ ((g : Picture) → TurnByTurn g) ⌝ }
+{
+    turn_count::count::count_turns(w, h, slices, turns)
 }

@@ -42,6 +42,10 @@ rises-distinct [] r = tt
 rises-distinct (a ∷ l) r = ((λ n. lt-irrefl a (r .0 a n)), rises-distinct l (r .1))
 
 -- ---- in another order
+pub permutes-itself : (l : List ℕ) → Permutes l l
+permutes-itself [] = none
+permutes-itself (a ∷ l) = keep a (permutes-itself l)
+
 pub names-permuted : {o l : List ℕ} → Permutes o l → (a : ℕ) → Names o a → Names l a
 names-permuted none a n = n
 names-permuted (keep b p) a (inl e) = inl e

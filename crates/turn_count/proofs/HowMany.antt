@@ -1,7 +1,11 @@
 -- How many turns a picture takes, put together. Assumes nothing.
+use mathlib.Core.Path.{_≡_}
 use mathlib.Core.List.{List}
 use Prim.Native.Nat.{ℕ}
-use Rattle.maps.specs.Size.{Size}
+use Rattle.laws.proofs.Answers.{passes-by}
+use Rattle.maps.specs.Size.{Size, sizeOk}
+use Rattle.maps.proofs.Sizes.{size-is}
+use Rattle.turn_count.specs.Count.{turnCountAnswer}
 use Rattle.turn_count.specs.HowMany.{HowMany}
 use Rattle.turn_count.proofs.After.{done-due, listed-due, row-due, count-last, finished, some, least, most}
 use Rattle.turn_count.proofs.Due.{recurrence}
@@ -23,3 +27,8 @@ how-many w h slices s = record {
   narrow-due = narrow-due w h slices s;
   narrow = narrow w h slices s;
 }
+
+-- where the call counts, the size is good
+pub counted : (w h : ℕ) (slices : List ℕ) (entries : ℕ) → turnCountAnswer w h entries ≡ 0 → HowMany w h slices
+unfolding turnCountAnswer
+counted w h slices entries e = how-many w h slices (size-is w h (passes-by 0 (sizeOk w h) _ e .0))

@@ -1,3 +1,4 @@
--- The law about turns is `one-turn`.
+-- The laws about turns are `one-turn` and `turn-by-turn`.
 pub mod OneTurn
+pub mod TurnByTurn
 mod Begun
