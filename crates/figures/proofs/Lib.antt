@@ -1,4 +1,5 @@
 -- What the figures follow from where they are not computed.
+pub mod CountFigures
 pub mod FlatFigures
 pub mod ReadFigures
 pub mod TurnFigures

@@ -1,4 +1,5 @@
 -- The worked figures of the rules that are proved.
+pub mod CountFigures
 pub mod Figures
 pub mod ReadFigures
 pub mod TurnFigures

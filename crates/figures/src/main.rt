@@ -7,7 +7,7 @@ mod pictures; // calls on a picture
 mod ranges; // blocks of coefficients at the ends of the range
 mod shuffled; // pictures in two orders
 mod tell;
-mod turn_by_turn; // the turn list
+mod turn_by_turn; // the turn list, and how many turns there are
 
 use libc::STDOUT_FILENO;
 
@@ -36,6 +36,7 @@ fn main() {
     turn_by_turn::counts();
     turn_by_turn::turns();
     turn_by_turn::whole_picture();
+    turn_by_turn::how_many_turns();
     shuffled::compare();
     lost::lose();
 }

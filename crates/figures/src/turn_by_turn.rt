@@ -1,7 +1,8 @@
-// The turn list: a picture of 3 by 2 macroblocks in one slice turn by turn, and the limits of the two calls.
+// The turn list: a picture of 3 by 2 macroblocks in one slice turn by turn, how many turns pictures take, and the limits of the three calls.
 use super::tell::tell;
 use jiwarbend::schedule::jiwarbend_count_rows;
 use jiwarbend::schedule::jiwarbend_turn;
+use jiwarbend::schedule::jiwarbend_turns;
 use libc::STDOUT_FILENO;
 
 // Six turns from a cleared map, each taking its whole list.
@@ -115,4 +116,38 @@ pub(crate) fn turns() {
     tell(b"turn, a slice map of 5", half_slices());
     tell(b"turn, three counts", half_rows());
     tell(b"turn, a list of three places", half_list());
+}
+
+// How many turns a picture with this slice map takes. The number is 77 before the call, and after one that is refused.
+fn how_many(what: &[u8], w: u32, h: u32, slices: &[u16]) {
+    let mut turns = 77u32;
+    tell(what, jiwarbend_turns(w, h, slices, &mut turns));
+    tell(b"  turns", turns);
+}
+
+pub(crate) fn how_many_turns() {
+    how_many(b"turns, 3 by 2 in one slice", 3, 2, &[0u16; 6]);
+    how_many(
+        b"turns, 3 by 2, a slice for each row",
+        3,
+        2,
+        &[0u16, 0, 0, 1, 1, 1],
+    );
+    how_many(
+        b"turns, 3 by 2, a slice from the third macroblock on",
+        3,
+        2,
+        &[0u16, 0, 1, 1, 1, 1],
+    );
+    how_many(b"turns, 2 by 1 in two slices", 2, 1, &[0u16, 1]);
+    how_many(b"turns, 1 by 3 in one slice", 1, 3, &[0u16; 3]);
+    how_many(b"turns, 1 by 3 in three slices", 1, 3, &[0u16, 1, 2]);
+    how_many(b"turns, 1 by 1", 1, 1, &[65535u16; 1]);
+    how_many(b"turns, 120 by 68 in one slice", 120, 68, &[0u16; 8160]);
+    how_many(b"turns, 1 by 68 in one slice", 1, 68, &[0u16; 68]);
+    how_many(b"turns, 121 by 68", 121, 68, &[0u16; 8160]);
+    how_many(b"turns, 120 by 69", 120, 69, &[0u16; 8160]);
+    how_many(b"turns, 0 by 1, no slices", 0, 1, &[0u16; 0]);
+    how_many(b"turns, 3 by 2, a slice map of 5", 3, 2, &[0u16; 5]);
+    how_many(b"turns, 3 by 2, a slice map of 7", 3, 2, &[0u16; 7]);
 }
