@@ -1,5 +1,5 @@
 -- After t turns exactly the macroblocks are done that are due by then, so that the number of turns is when the last is due. Assumes nothing.
-use mathlib.Core.Path.{_≡_, refl, sym, ap, subst, _∙_}
+use mathlib.Core.Path.{_≡_, sym, ap, subst, _∙_}
 use mathlib.Core.Bool.{true, false, not}
 use mathlib.Core.Logic.{_⊎_, inl, inr, _↔_}
 use mathlib.Core.List.{List, []}
@@ -164,7 +164,7 @@ module _ (w h : ℕ) (slices : List ℕ) where
     pub count-last : turnCount w h slices ≡ latest h end
     unfolding turnCount
     count-last =
-        leads-same (total w h) (unfinished w h slices) _ (latest h end) (leading-is (total w h) (unfinished w h slices)) (record {
+        leads-same _ (unfinished w h slices) _ (latest h end) (leading-is _ (unfinished w h slices)) (record {
           most = end-most;
           all = λ t l. unfinished-yes t (λ f. omega (arith, all-due t .0 f));
           stop = λ _. unfinished-no (latest h end) (all-due (latest h end) .1 (le-refl (latest h end)));

@@ -1,5 +1,5 @@
 -- The recurrence of when a macroblock is due, as what it waits for, and what bounds it. Assumes nothing.
-use mathlib.Core.Path.{_≡_, refl, sym, ap, subst, _∙_}
+use mathlib.Core.Path.{_≡_, refl, sym, ap, _∙_}
 use mathlib.Core.Bool.{Bool, true, false, cond}
 use mathlib.Core.List.{List}
 use Prim.Native.Nat.{ℕ, zero, suc, _+_, _*_, _-_, _<_, _≤_, max, zero-le}
@@ -106,7 +106,9 @@ module _ (w : ℕ) (slices : List ℕ) where
     by-address zero x y h hx = absurd (not-suc-le-zero h)
     by-address (suc m) x y h hx =
         within-due (f x y) x y (record {
-          before = λ l. let p : address w (x - 1) y < m = omega arith in let q : x - 1 < w = omega arith in omega (arith, by-address m (x - 1) y p q, grows x y l);
+          before = λ l. let p : address w (x - 1) y < m = omega arith in
+              let q : x - 1 < w = omega arith in
+              omega (arith, by-address m (x - 1) y p q, grows x y l);
           sides = λ k e. let b = available-at w x y slices k hx e in
               let p : address w (besideX x k) (besideY y k) < m = omega (arith, b .before) in
               omega (arith, by-address m (besideX x k) (besideY y k) p (b .column), further x y hx k e);

@@ -9,11 +9,11 @@ use borrow.Author.Tests.{lt-ltb, eq-eqb}
 use Rattle.laws.proofs.Tests.{and-of}
 use Rattle.maps.specs.Neighbours.{Side, beside, inPicture, available}
 use Rattle.maps.specs.Neighbours.Side.{B, C}
-use Rattle.maps.specs.Size.{total, address, Size, Stands}
+use Rattle.maps.specs.Size.{address, Size, Stands}
 use Rattle.maps.proofs.Beside.{beside-at}
 use Rattle.maps.proofs.Sizes.{address-inside}
 use Rattle.turn_count.specs.Count.{turnCount}
-use Rattle.turn_count.specs.Due.{due, latest}
+use Rattle.turn_count.specs.Due.{due}
 use Rattle.turn_count.specs.HowMany.{OneSlice}
 use Rattle.turn_count.proofs.After.{count-last, most}
 use Rattle.turn_count.proofs.Due.{due-some, due-side, due-next, due-wave, due-address}

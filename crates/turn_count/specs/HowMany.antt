@@ -19,7 +19,8 @@ OneSlice w h slices = (a b : ℕ) → a < total w h → b < total w h → getD s
 pub record HowMany (w h : ℕ) (slices : List ℕ) : Type 0 where
   -- ---- when a macroblock is due
   -- one turn after the latest of the one before it in its row, whatever its slice, and its available neighbours above
-  pub recurrence : (x y : ℕ) → due w slices x y ≡ 1 + max (dueBefore w slices x y) (max (dueOn w slices x y B) (max (dueOn w slices x y C) (dueOn w slices x y D)))
+  pub recurrence : (x y : ℕ)
+      → due w slices x y ≡ 1 + max (dueBefore w slices x y) (max (dueOn w slices x y B) (max (dueOn w slices x y C) (dueOn w slices x y D)))
   -- in that turn it is listed, after that turn it is done, and so is its row with the row's last one
   pub listed : (t x y : ℕ) → Stands w h x y → Names (turn w h slices (doneAfter w h slices t)) (address w x y) ↔ (due w slices x y ≡ suc t)
   pub done : (t x y : ℕ) → Stands w h x y → Done (doneAfter w h slices t) (address w x y) ↔ (due w slices x y ≤ t)

@@ -1,9 +1,9 @@
 -- Turn after turn: each leaves the map that the count has after it, so that the picture is finished with the last that is counted. Assumes nothing.
-use mathlib.Core.Path.{_≡_, refl, sym, ap, subst, _∙_}
+use mathlib.Core.Path.{_≡_, sym, ap, subst, _∙_}
 use mathlib.Core.Logic.{_↔_}
 use mathlib.Core.List.{List, [], _∷_, map}
 use Prim.Native.Nat.{ℕ, zero, suc, _+_, _≤_, zero-le}
-use native.Mathlib.Nat.{add-zero, add-suc}
+use native.Mathlib.Nat.{add-zero}
 use native.Mathlib.Omega.{arith}
 use lib.ListN.{length, length-replicate}
 use Rattle.order.specs.Driver.{play}
@@ -32,7 +32,8 @@ module _ (g : Picture) where
   unfolding doneAfter
   after-next s cs k t e = one-turn g .done s cs k ∙ ap (λ d. marked (turnOf g d) d) e
 
-  after-turns : (runs : List (List Call)) (s : Lent) → TakesTurns g s runs → (t : ℕ) → s .done ≡ after t → play driver (joined runs) s .done ≡ after (t + length runs)
+  after-turns : (runs : List (List Call)) (s : Lent) → TakesTurns g s runs → (t : ℕ) → s .done ≡ after t
+      → play driver (joined runs) s .done ≡ after (t + length runs)
   after-turns [] s k t e = e ∙ ap after (sym (add-zero t))
   after-turns (cs ∷ runs) s k t e =
       ap (λ u. u .done) (play-append driver cs (joined runs) s) ∙ after-turns runs (play driver cs s) (k .1) (suc t) (after-next s cs (k .0) t e)

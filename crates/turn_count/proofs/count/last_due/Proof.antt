@@ -41,4 +41,5 @@ returns c =
     l .inv .1 ∙ ap (λ n. latest n (λ j. due (a .w) (a .slices .now) (a .w - 1) j)) e
 
 pub last-due-spec : {M : Type 1} → statement M
-last-due-spec = tie.close (tie.spec Inv-loop μ-loop loop-holds due-row-requires (λ c κs. search needs) (λ c. search needs) (λ c. omega arith) loop-again returns)
+last-due-spec =
+    tie.close (tie.spec Inv-loop μ-loop loop-holds due-row-requires (λ c κs. search needs) (λ c. search needs) (λ c. omega arith) loop-again returns)

@@ -37,7 +37,8 @@ here c =
     let l = i .before .loop in
     let s = i .before .before .before in
     let a = s .args in
-    due-here (a .w) (a .slices .now) (a .y) (a .h) (l .x) (l .before) (l .corner) (l .row) (c .marks-of .result) (s .pre .0) (stands i) (l .inv) (c .marks-of .ensures)
+    due-here (a .w) (a .slices .now) (a .y) (a .h) (l .x) (l .before) (l .corner) (l .row) (c .marks-of .result) (s .pre .0) (stands i) (l .inv)
+    (c .marks-of .ensures)
 
 due-after-requires : tie.Need-due-after-requires Inv-loop μ-loop
 due-after-requires c κs =
@@ -67,6 +68,6 @@ returns c =
 pub due-row-spec : {M : Type 1} → statement M
 due-row-spec =
     tie.close
-    (tie.spec Inv-loop μ-loop loop-holds (λ c. search needs) (λ c. search needs) element-copy-out-above (λ c. search needs) (λ c. search needs) (λ c. search needs)
-    element-copy-out-right (λ c κs. search needs) due-after-requires (λ c. search needs) (λ c. search needs) element-write-row (λ c. search needs) (λ c. omega arith)
-    loop-again returns)
+    (tie.spec Inv-loop μ-loop loop-holds (λ c. search needs) (λ c. search needs) element-copy-out-above (λ c. search needs) (λ c. search needs)
+    (λ c. search needs) element-copy-out-right (λ c κs. search needs) due-after-requires (λ c. search needs) (λ c. search needs) element-write-row
+    (λ c. search needs) (λ c. omega arith) loop-again returns)
