@@ -22,6 +22,14 @@ unfolding latest
 latest-least zero f t g = zero-le
 latest-least (suc n) f t g = omega (arith, latest-least n f t (λ i h. g i (omega arith)), g n (omega arith))
 
+pub latest-along : (m n : ℕ) (f : ℕ → ℕ) → m ≤ n → latest m f ≤ latest n f
+latest-along m n f l = latest-least m f (latest n f) (λ i h. latest-upper n f i (omega arith))
+
+pub latest-same : (n : ℕ) (f g : ℕ → ℕ) → ((i : ℕ) → i < n → f i ≡ g i) → latest n f ≡ latest n g
+unfolding latest
+latest-same zero f g e = refl
+latest-same (suc n) f g e = rw (latest-same n f g (λ i h. e i (omega arith)), e n (omega arith))
+
 -- as a loop finds it
 pub latest-none : (f : ℕ → ℕ) → 0 ≡ latest 0 f
 unfolding latest

@@ -2,6 +2,7 @@
 pub mod HowMany
 mod After
 mod Due
+mod Lateness
 mod Latest
 mod OneSlice
 mod Rows

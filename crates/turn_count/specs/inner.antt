@@ -1,2 +1,2 @@
 -- What only the contracts of private functions speak of.
-pub mod Row
+pub mod Late

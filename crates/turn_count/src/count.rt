@@ -1,13 +1,14 @@
-// The number of turns: the last macroblock of each row is its latest, so the latest of these is the last of all.
+// The number of turns: a row is done with its last macroblock, and the picture with the latest row.
 ghost use mathlib.Core.Path.{_≡_};
 ghost use Prim.Native.Nat.{_-_};
 ghost use lib.ListN.{length};
 ghost use Rattle.laws.specs.Answer.{written};
 ghost use Rattle.turn_count.specs.Count.{turnCount, turnCountAnswer};
-ghost use Rattle.turn_count.specs.Due.{due, latest};
-ghost use Rattle.turn_count.specs.inner.Row.{Mapped};
-use super::row::due_row;
-use super::row::later;
+ghost use Rattle.turn_count.specs.Due.{latest};
+ghost use Rattle.turn_count.specs.inner.Late.{Mapped, late};
+use super::late::late_row;
+use super::late::later;
+use basics::mean::wide;
 use maps::size::size_ok;
 
 // Counts the turns that a picture takes from a cleared done map until all is done, each turn accepting its whole list.
@@ -21,20 +22,20 @@ pub fn count_turns(w: u32, h: u32, slices: &[u16], turns: &mut u32) -> u32
     if slices.len() != (h as usize) * (w as usize) {
         return 2;
     }
-    *turns = last_due(w, h, slices);
+    *turns = w + wide(latest_row(w, h, slices));
     0
 }
 
-// When the last macroblock of the picture is due.
-fn last_due(w: u32, h: u32, slices: &[u16]) -> u32
+// How late the last macroblock of the latest row is. The first row is not late at all.
+fn latest_row(w: u32, h: u32, slices: &[u16]) -> u8
     requires { ⌜ Mapped w h (now slices) ⌝ }
-    ensures { λ r. ⌜ r ≡ latest h (λ y. due w (now (slices .entry)) (w - 1) y) ⌝ }
+    ensures { λ r. ⌜ r ≡ latest h (λ y. late w (now (slices .entry)) (w - 1) y) ⌝ }
 {
-    let mut row = [0u32; 121];
+    let mut row = [0u8; 120];
     let mut last = 0;
-    let mut y: u32 = 0;
+    let mut y: u32 = 1;
     while y < h {
-        let end = due_row(w, h, y, slices, &mut row);
+        let end = late_row(w, h, y, slices, &mut row);
         last = later(last, end);
         y += 1;
     }

@@ -1,6 +1,7 @@
 -- `turn_count::count::count_turns` meets its contract: the number of turns is when the last macroblock is due. Assumes nothing.
-use mathlib.Core.Path.{_≡_, refl, sym, _∙_}
+use mathlib.Core.Path.{_≡_, refl, sym, ap, _∙_}
 use mathlib.Core.Bool.{true}
+use Prim.Native.Nat.{_+_}
 use native.Mathlib.Omega.{arith}
 use borrow.Author.Needs.{needs}
 use borrow.Author.Tests.{not-true, not-false, eq-eqb, ne-eqb}
@@ -8,6 +9,7 @@ use Rattle.maps.specs.Size.{sizeOk}
 use Rattle.maps.proofs.Sizes.{size-is, product-most}
 use Rattle.turn_count.specs.Count.{turnCountAnswer}
 use Rattle.turn_count.proofs.After.{count-last}
+use Rattle.turn_count.proofs.Lateness.{latest-late}
 use Rattle.turn_count.proofs.count.count_turns.Statement.{statement}
 use Rattle.turn_count.proofs.count.count_turns.Tie as tie
 
@@ -25,18 +27,29 @@ returns-2 : tie.Need-returns-2
 unfolding turnCountAnswer
 returns-2 c = (rw (sized (c .before), ne-eqb _ _ (c .if2 .taken)), refl)
 
-last-due-requires : tie.Need-last-due-requires
-last-due-requires c κs =
+latest-row-requires : tie.Need-latest-row-requires
+latest-row-requires c κs =
     let a = c .before .before .before .before .args in record { size = size-is (a .w) (a .h) (sized (c .before)); long = c .if2 .left }
+
+add-turns : tie.Need-add-turns
+add-turns c =
+    let e = c .before .before in
+    let a = e .before .before .before .before .args in
+    let g = size-is (a .w) (a .h) (sized (e .before)) in
+    omega (arith, g .most-w, c .wide .ensures .1)
 
 returns-3 : tie.Need-returns-3
 unfolding turnCountAnswer
 returns-3 c =
-    let e = c .before in
-    let a = e .before .before .before .before .args in (
+    let e = c .before .before in
+    let a = e .before .before .before .before .args in
+    let g = size-is (a .w) (a .h) (sized (e .before)) in (
       rw (sized (e .before), eq-eqb _ _ (e .if2 .left)),
-      c .last-due .ensures ∙ sym (count-last (a .w) (a .h) (a .slices .now) (size-is (a .w) (a .h) (sized (e .before)))),
+      ap (λ n. a .w + n) (c .wide .ensures .0 ∙ c .before .latest-row .ensures)
+          ∙ sym (count-last (a .w) (a .h) (a .slices .now) g ∙ latest-late (a .w) (a .h) (a .slices .now) (g .some-w) (g .some-h)),
     )
 
 pub count-turns-spec : {M : Type 1} → statement M
-count-turns-spec = tie.close (tie.spec (λ c κs. search needs) returns mul-if2 returns-2 last-due-requires returns-3)
+count-turns-spec =
+    tie.close
+    (tie.spec (λ c κs. search needs) returns mul-if2 returns-2 latest-row-requires (λ c κs. search needs) add-turns returns-3)
