@@ -68,6 +68,7 @@ examples: $(ARCHIVE)
 	build/examples/rebuild
 	$(RUN) --example workers
 	$(RUN) --example night 5
+	$(RUN) --example wave
 
 diff: $(ARCHIVE)
 	$(RUN) -p harness --bin diff

@@ -112,12 +112,15 @@ int main(void)
         return 1;
 
     /* The same picture turn by turn. The first macroblock of a row waits for the second of the row above: two turns more for each row. */
+    uint32_t turns;
     memset(q.slices, 0, sizeof q.slices);
-    if (jiwarbend_start(W, H, q.done, MANY, &q.progress) != JIWARBEND_OK || take_turns(&q, records) != W + 2 * (H - 1))
+    if (jiwarbend_turns(W, H, q.slices, MANY, &turns) != JIWARBEND_OK || turns != W + 2 * (H - 1))
+        return 1;
+    if (jiwarbend_start(W, H, q.done, MANY, &q.progress) != JIWARBEND_OK || take_turns(&q, records) != turns)
         return 1;
     if (memcmp(p.luma, q.luma, sizeof p.luma) != 0 || memcmp(p.cb, q.cb, sizeof p.cb) != 0 || memcmp(p.cr, q.cr, sizeof p.cr) != 0)
         return 1;
-    printf("the same turn by turn, in %d turns\n", W + 2 * (H - 1));
+    printf("the same turn by turn, in the %u turns that were counted before\n", (unsigned)turns);
 
     /* A done macroblock is final. */
     return rebuild(&p, 0, 0, &records[0]) == JIWARBEND_DONE ? 0 : 1;

@@ -24,7 +24,8 @@
    no lock, and expects that nobody else writes what it is lent or reads what it writes before it has returned. Two threads that call
    for one picture at the same time can leave its count wrong: give the picture a lock, or to one thread. jiwarbend_count_rows and jiwarbend_turn only
    read the maps: the one writes rows, the other list and how_many. So while no thread starts or rebuilds a picture, several may ask for its turn, each
-   with rows, list and how_many of its own.
+   with rows, list and how_many of its own. jiwarbend_turns reads the slice map alone, which no call writes: any thread may ask it at any time, each
+   with a number of its own.
 
    Left out. Deblocking (a stream with the loop filter on gives other samples until it is applied), I_PCM macroblocks, entropy decoding,
    dequantisation, constrained intra prediction, field coding, prediction between pictures, other sample depths and chroma formats.
@@ -38,7 +39,7 @@
 
 #define JIWARBEND_VERSION_MAJOR 0
 #define JIWARBEND_VERSION_MINOR 6
-#define JIWARBEND_VERSION_PATCH 0
+#define JIWARBEND_VERSION_PATCH 1
 
 #include <stdbool.h>
 #include <stddef.h>
@@ -148,6 +149,18 @@ uint32_t jiwarbend_count_rows(uint32_t w, uint32_t h, const uint8_t *done, size_
    by address, still never has to wait. */
 uint32_t jiwarbend_turn(uint32_t w, uint32_t h, const uint8_t *done, size_t done_len, const uint16_t *slices, size_t slices_len,
     const uint32_t *rows, size_t rows_len, uint32_t *list, size_t list_len, uint32_t *how_many);
+
+/* Counts the turns of a whole picture: how often jiwarbend_turn lists one, from a done map with nothing done until all is done, where all that is listed is
+   accepted each time. Size and slice map tell it, so that it can be asked before there is a done map; the map is only read. Answers 0, 1, or 2 for the
+   map's length. It takes some w * h steps at most.
+
+   Proved: so many turns finish the picture and no fewer do, whoever takes their macroblocks and in whatever order. Whatever the slices are, there are at least
+   w and at most w + 2 * (h - 1) turns, and so at most 254; in one slice exactly that many, or h where w is 1. 3 by 2 macroblocks in one slice take 5 turns.
+
+   When is row y done? A macroblock is done in turn 1 + the latest among the turns of the macroblock to its left, of whatever slice that is, and of its
+   available neighbours B, C and D; where it has none of these, in turn 1. A row is done with its last macroblock, and the picture with the latest row: in
+   one slice of two columns or more, row y is done with turn w + 2 * y. This is proved too. So w * h / turns is how many cores have work on average. */
+uint32_t jiwarbend_turns(uint32_t w, uint32_t h, const uint16_t *slices, size_t slices_len, uint32_t *turns);
 
 /* ---- prediction of one block (clause 8.3)
 

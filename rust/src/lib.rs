@@ -53,13 +53,17 @@
 //! }
 //! // The second row starts when the macroblock above and to the right of its first one is done.
 //! assert_eq!(turns, [vec![(0, 0)], vec![(1, 0)], vec![(2, 0), (0, 1)], vec![(1, 1)], vec![(2, 1)]]);
+//! assert_eq!(turns.len() as u32, picture.turns());
 //! # Ok::<(), Refusal>(())
 //! ```
+//!
+//! How many turns that will be [`Picture::turns`] says beforehand, and [`turns`] before there is a picture, from its size and its slices: never more than
+//! `w + 2 * (h - 1)`. `examples/wave.rs` draws how many macroblocks each turn has, which is how many cores can work at once.
 //!
 //! # Threads
 //!
 //! One call at a time for a picture; different pictures side by side. The library keeps no state of its own, takes no lock and makes no
-//! thread: what a call reads and writes is what it is lent. The types hold to the rule, since every call takes its picture by `&mut`, and
+//! thread: what a call reads and writes is what it is lent. The types hold to the rule, since a call that changes a picture takes it by `&mut`, and
 //! [`Picture`] and [`Lent`] can be sent to another thread. `examples/workers.rs` has several workers over many pictures.
 //!
 //! # Panics
@@ -87,5 +91,5 @@ pub mod sys;
 pub mod turned;
 
 pub use modes::{ChromaMode, Kind, Luma16x16Mode, LumaMode};
-pub use picture::{Lent, LentPlane, Picture, Plane, Progress, Record};
+pub use picture::{turns, Lent, LentPlane, Picture, Plane, Progress, Record};
 pub use refusal::Refusal;

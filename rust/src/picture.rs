@@ -279,9 +279,35 @@ impl<'a> Lent<'a> {
     }
 }
 
+/// How many turns a picture of `w` by `h` macroblocks with these slice numbers takes: from nothing done until all is done, where each time all that
+/// [`Picture::turn`] lists is accepted. Size and slices tell it, and so it can be asked before there is a picture.
+///
+/// It is at most `w + 2 * (h - 1)`, and in one slice exactly that, or `h` where `w` is 1. A macroblock is done in turn 1 + the latest among the turns of the
+/// macroblock to its left, of whatever slice that is, and of its available neighbours above, above and to the right, and above and to the left; a row is
+/// done with its last macroblock.
+///
+/// ```
+/// use jiwarbend::{turns, Refusal};
+///
+/// assert_eq!(turns(3, 2, &[0; 6])?, 5);
+/// // A slice for each row: no row waits for another one.
+/// assert_eq!(turns(3, 2, &[0, 0, 0, 1, 1, 1])?, 3);
+/// # Ok::<(), Refusal>(())
+/// ```
+///
+/// # Errors
+///
+/// [`Refusal::Size`], or [`Refusal::Room`] unless there are `w * h` slice numbers.
+pub fn turns(w: u32, h: u32, slices: &[u16]) -> Result<u32, Refusal> {
+    let mut turns = 0;
+    // SAFETY: pointer and length are a slice's, and what is written is apart from it.
+    Refusal::check(unsafe { sys::jiwarbend_turns(w, h, slices.as_ptr(), slices.len(), &mut turns) })?;
+    Ok(turns)
+}
+
 /// A picture that owns its planes and maps. It is started when it is made, and only its calls change it.
 ///
-/// A call takes the picture by `&mut`, so that two threads cannot be in one picture at a time. Different pictures may be rebuilt side
+/// A call that changes the picture takes it by `&mut`, so that two threads cannot be in one picture at a time. Different pictures may be rebuilt side
 /// by side: a `Picture` can be sent to another thread, and nothing is shared between two of them.
 #[derive(Clone, Debug)]
 pub struct Picture {
@@ -442,6 +468,12 @@ impl Picture {
         let mut list = vec![0; rows.len()];
         let how_many = self.lend().turn(&rows, &mut list).expect("the counts have just been made");
         list[..how_many].iter().map(|address| (address % w, address / w)).collect()
+    }
+
+    /// How many turns the whole picture takes, from nothing done until all is done, where all that [`Picture::turn`] lists is accepted each time. What is
+    /// done by now has no say in it: [`turns`] answers the same from the picture's size and slices.
+    pub fn turns(&self) -> u32 {
+        turns(self.w, self.h, &self.slices).expect("a picture has the memory of its size")
     }
 
     /// Whether every macroblock is done.

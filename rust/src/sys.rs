@@ -57,6 +57,7 @@ extern "C" {
         list_len: usize,
         how_many: *mut u32,
     ) -> u32;
+    pub fn jiwarbend_turns(w: u32, h: u32, slices: *const u16, slices_len: usize, turns: *mut u32) -> u32;
 
     pub fn jiwarbend_clip_u8(v: i32) -> u8;
     pub fn jiwarbend_chroma_qp(qp: u8) -> u8;

@@ -276,8 +276,8 @@ fn rebuild() {
     }
 }
 
-/// A call of `count_rows` or of `turn` for 2 by 3 macroblocks in two slices, which is good until it is bent. The turn has macroblocks 1 and 2; that of the
-/// last row waits for its corner.
+/// A call of `count_rows`, of `turn` or of `turns` for 2 by 3 macroblocks in two slices, which is good until it is bent. The turn has macroblocks 1 and 2;
+/// that of the last row waits for its corner.
 struct Turn {
     w: u32,
     h: u32,
@@ -317,6 +317,11 @@ impl Turn {
             )
         }
     }
+
+    fn turns(self) -> impl FnOnce() -> u32 {
+        let (slices, turns) = (ReadOnly::new(&self.slices), ReadOnly::new(&[77u32]));
+        move || unsafe { jiwarbend_turns(self.w, self.h, slices.at(), slices.len(), turns.at()) }
+    }
 }
 
 type BendTurn = fn(&mut Turn);
@@ -353,8 +358,21 @@ fn turns() {
             refused(&format!("turn, bent in way {k}"), number, call.turn());
         }
     }
+    for (number, bends) in [(1, BENT_SIZES), (2, BENT_SLICES)] {
+        for (k, bend) in bends.iter().enumerate() {
+            let mut call = Turn::new();
+            bend(&mut call);
+            refused(&format!("turns, bent in way {k}"), number, call.turns());
+        }
+    }
     accepted("count_rows", Turn::new().count_rows());
     accepted("turn", Turn::new().turn());
+    accepted("turns", Turn::new().turns());
+    // Where the number of turns is refused, not even the slice numbers are read: not one of them can be.
+    for (number, w, h, len) in [(1, 0, 3, 0), (1, 121, 3, 363), (1, 2, 69, 138), (2, 2, 3, 5), (2, 2, 3, 7), (2, 2, 3, 0)] {
+        let (nowhere, turns) = (ReadOnly::new(&[0u16; 0]), ReadOnly::new(&[77u32]));
+        refused("turns, without slice numbers", number, move || unsafe { jiwarbend_turns(w, h, nowhere.at(), len, turns.at()) });
+    }
 }
 
 #[test]
@@ -375,6 +393,12 @@ fn turns_only_read_the_maps() {
         answer + (list != [1, 2, 8] || how_many != 2) as u32
     };
     assert_eq!(tried(listed), Ok(0), "turn: an answer, or the signal of a write into a map or a count");
+    let counted = || {
+        let mut turns = 77;
+        let answer = unsafe { jiwarbend_turns(2, 3, slices.at(), slices.len(), &mut turns) };
+        answer + (turns != 4) as u32
+    };
+    assert_eq!(tried(counted), Ok(0), "turns: an answer, or the signal of a write into the slice map");
 }
 
 /// A list's length: one short, one long and empty.

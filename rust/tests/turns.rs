@@ -1,14 +1,15 @@
 //! Turn lists for idle cores: the row counts and the turns are those of the rule, which is written here once more, row by row. What a turn lists meets no
-//! refusal in any order, no turn is empty before the picture is finished, and a picture that is rebuilt turn by turn is that of raster order.
+//! refusal in any order, no turn is empty before the picture is finished, and a picture that is rebuilt turn by turn is that of raster order. It takes as many
+//! turns as are counted beforehand.
 #[allow(dead_code)]
 mod memory;
 mod store;
 
-use jiwarbend::sys::{jiwarbend_count_rows, jiwarbend_turn};
-use jiwarbend::{ChromaMode, Lent, LentPlane, Luma16x16Mode, LumaMode, Picture, Progress, Record, Refusal};
+use jiwarbend::sys::{jiwarbend_count_rows, jiwarbend_turn, jiwarbend_turns};
+use jiwarbend::{turns, ChromaMode, Lent, LentPlane, Luma16x16Mode, LumaMode, Picture, Progress, Record, Refusal};
 use memory::Numbers;
 
-/// What the two calls are lent, whatever its lengths are. A test compares all of it, to see what was written and what was not.
+/// What the three calls are lent, whatever its lengths are. A test compares all of it, to see what was written and what was not.
 #[derive(Clone, Debug, PartialEq, Eq)]
 struct Maps {
     w: u32,
@@ -48,6 +49,11 @@ impl Maps {
         }
     }
 
+    /// The number of turns is written where that of a turn's macroblocks is.
+    fn turns(&mut self) -> u32 {
+        unsafe { jiwarbend_turns(self.w, self.h, self.slices.as_ptr(), self.slices.len(), &mut self.how_many) }
+    }
+
     /// The column of the first undone macroblock of each row, or the width.
     fn counts_due(&self) -> Vec<u32> {
         let first_undone = |row: &[u8]| row.iter().position(|&mark| mark != 1).unwrap_or(row.len()) as u32;
@@ -72,19 +78,44 @@ impl Maps {
     fn is_finished(&self) -> bool {
         self.done.iter().all(|&mark| mark == 1)
     }
+
+    /// The number of turns from nothing done until all is done, by taking them.
+    fn turns_due(&self) -> u32 {
+        let mut maps = Maps::of((self.w, self.h), self.slices.clone(), vec![0; self.slices.len()]);
+        for taken in 0.. {
+            if maps.is_finished() {
+                return taken;
+            }
+            maps.turn_due().into_iter().for_each(|address| maps.done[address as usize] = 1);
+        }
+        unreachable!()
+    }
+
+    /// Counts the turns, which are as many as are due and no more than there may be. Nothing else is written, and the crate's function says the same.
+    fn see_turns(&mut self) -> u32 {
+        let due = self.turns_due();
+        let wanted = Maps { how_many: due, ..self.clone() };
+        assert_eq!(self.turns(), 0);
+        assert_eq!(*self, wanted);
+        assert_eq!(turns(self.w, self.h, &self.slices), Ok(due));
+        assert!((self.w..=self.w + 2 * (self.h - 1)).contains(&due), "{due} turns of {} by {}", self.w, self.h);
+        due
+    }
 }
 
 const SIZES: [(u32, u32); 12] = [(1, 1), (1, 2), (1, 68), (2, 1), (120, 1), (2, 2), (2, 68), (3, 2), (5, 4), (8, 13), (40, 22), (120, 68)];
 
-/// One slice, slices of rows, of runs, scattered ones and a slice for each macroblock. Some numbers differ in one of their bytes only.
+/// One slice, slices of rows, of runs, scattered ones, a slice for each macroblock, a checkerboard and columns. Some numbers differ in one of their bytes only.
 fn slice_map((w, h): (u32, u32), numbers: &mut Numbers) -> Vec<u16> {
     let run = 1 + numbers.below(2 * w);
     let scattered = |numbers: &mut Numbers| [0, 256, 65_535, 255][numbers.below(4) as usize];
-    match numbers.below(5) {
+    match numbers.below(7) {
         0 => vec![numbers.below(65_536) as u16; (w * h) as usize],
         1 => (0..w * h).map(|a| (a / w) as u16).collect(),
         2 => (0..w * h).map(|a| (a / run) as u16).collect(),
         3 => (0..w * h).map(|_| scattered(numbers)).collect(),
+        4 => (0..w * h).map(|a| (a % w + a / w) as u16 % 2 * 256).collect(),
+        5 => (0..w * h).map(|a| (a % w) as u16).collect(),
         _ => (0..w * h).map(|a| a as u16).collect(),
     }
 }
@@ -230,9 +261,17 @@ fn every_refusal_has_its_number_and_writes_nothing() {
             assert_eq!(bent(Maps::turn, &[bend]), (number, true), "turn, bent in way {k}");
         }
     }
+    for (number, bends) in [(1, &OF_SIZE[..]), (2, &OF_SLICES)] {
+        for (k, &bend) in bends.iter().enumerate() {
+            assert_eq!(bent(Maps::turns, &[bend]), (number, true), "turns, bent in way {k}");
+        }
+    }
     // What a call does not take it does not look at.
     for &bend in OF_SLICES.iter().chain(&OF_LIST).chain(&OF_COUNTS) {
         assert_eq!(bent(Maps::count_rows, &[bend]).0, 0);
+    }
+    for &bend in OF_DONE.iter().chain(&OF_ROWS).chain(&OF_LIST).chain(&OF_COUNTS) {
+        assert_eq!(bent(Maps::turns, &[bend]), (0, false));
     }
     assert_eq!(bent(Maps::turn, &[]), (0, false));
     // The largest size and the smallest.
@@ -240,6 +279,12 @@ fn every_refusal_has_its_number_and_writes_nothing() {
         let mut maps = good();
         resized(&mut maps, w, h);
         assert_eq!((maps.count_rows(), maps.turn(), maps.how_many), (0, 0, 1));
+        assert_eq!((maps.turns(), maps.how_many), (0, if w > 1 { w + 2 * (h - 1) } else { h }));
+        // A slice number too few and one too many.
+        for len in [w * h - 1, w * h + 1] {
+            let mut other = Maps { slices: vec![0; len as usize], how_many: BEFORE, ..maps.clone() };
+            assert_eq!((other.turns(), other.how_many), (2, BEFORE));
+        }
     }
 }
 
@@ -262,6 +307,9 @@ fn the_smallest_number_is_given() {
         for of_size in sizes {
             assert_eq!(bent(Maps::count_rows, &[of_rows, of_room, of_size]), (1, true));
         }
+    }
+    for (of_room, of_size) in OF_SLICES.into_iter().flat_map(|of_room| sizes.map(|of_size| (of_room, of_size))) {
+        assert_eq!(bent(Maps::turns, &[of_room, of_size]), (1, true));
     }
 }
 
@@ -480,6 +528,8 @@ fn turn_by_turn(job: &Job, numbers: &mut Numbers) -> usize {
     }
     assert_eq!(job.turn(&mut picture), []);
     assert!(same_planes(&picture, &job.in_raster_order()));
+    // What is done has no say in how many turns there are.
+    assert_eq!((job.blank().turns(), picture.turns()), (turns as u32, turns as u32));
     turns
 }
 
@@ -536,5 +586,76 @@ fn a_start_brings_the_first_turn_back() {
         picture.start();
         assert_eq!(job.turn(&mut picture), job.turn(&mut job.blank()));
         assert_eq!(picture.count_rows(), vec![0; size.1 as usize]);
+    }
+}
+
+#[test]
+fn as_many_turns_are_counted_as_the_rule_takes() {
+    let mut numbers = Numbers(12);
+    for mut maps in many_maps(13, 20) {
+        maps.see_turns();
+    }
+    for _ in 0..200 {
+        let size = (1 + numbers.below(120), 1 + numbers.below(68));
+        Maps::of(size, slice_map(size, &mut numbers), vec![]).see_turns();
+    }
+}
+
+#[test]
+fn every_small_slice_map_is_counted_right() {
+    // All maps of up to three slices, wherever their macroblocks lie.
+    for (w, h) in [(1, 4), (2, 2), (2, 3), (2, 4), (3, 2), (3, 3), (4, 2), (8, 1)] {
+        let many = w * h;
+        for map in 0..3u32.pow(many) {
+            let slices = (0..many).map(|a| (map / 3u32.pow(a) % 3) as u16).collect();
+            Maps::of((w, h), slices, vec![]).see_turns();
+        }
+    }
+}
+
+#[test]
+fn one_slice_takes_two_turns_more_for_each_row() {
+    let slices = vec![7; 120 * 68];
+    for (w, h) in (1..=120).flat_map(|w| (1..=68).map(move |h| (w, h))) {
+        // Of one column none has a neighbour above and to the right.
+        let due = if w > 1 { w + 2 * (h - 1) } else { h };
+        assert_eq!(turns(w, h, &slices[..(w * h) as usize]), Ok(due), "{w} by {h}");
+    }
+}
+
+#[test]
+fn slices_that_are_rows_or_columns_take_fewer_turns() {
+    let mut numbers = Numbers(14);
+    for size in SIZES {
+        let (w, h) = size;
+        let of = |slice: &dyn Fn(u32, u32) -> u32| {
+            let slices = (0..w * h).map(|a| slice(a % w, a / w) as u16).collect();
+            Maps::of(size, slices, vec![]).see_turns()
+        };
+        let whole = of(&|_, _| 0);
+        assert_eq!(of(&|_, y| y), w);
+        assert_eq!(of(&|x, y| y * w + x), w);
+        // Of a column each waits for the one above it alone.
+        assert_eq!(of(&|x, _| x), w + h - 1);
+        // A checkerboard's macroblocks have the two corners in their slice, and so it takes as many turns as one slice; of one column, none waits.
+        assert_eq!(of(&|x, y| (x + y) % 2), if w > 1 { whole } else { 1 });
+        // The last row is another slice, which is done before the others.
+        let rest = h.saturating_sub(2);
+        assert_eq!(of(&|_, y| (y + 1 == h) as u32), if w > 1 { w + 2 * rest } else { 1 + rest });
+        // Where slices have several rows, the one with the most takes longest.
+        let rows = 1 + numbers.below(h);
+        assert_eq!(of(&|_, y| y / rows), if w > 1 { w + 2 * (rows - 1) } else { rows });
+    }
+}
+
+#[test]
+fn a_call_for_the_number_of_turns_is_refused_for_size_and_slices() {
+    assert_eq!(turns(3, 2, &[0; 6]), Ok(5));
+    for (w, h) in [(0, 2), (121, 2), (3, 0), (3, 69), (u32::MAX, u32::MAX), (1 << 16, 1 << 16)] {
+        assert_eq!(turns(w, h, &[0; 6]), Err(Refusal::Size), "{w} by {h}");
+        assert_eq!(turns(w, h, &[]), Err(Refusal::Size), "{w} by {h}");
+    }
+    for slices in [&[0; 5][..], &[0; 7], &[]] {
+        assert_eq!(turns(3, 2, slices), Err(Refusal::Room), "{} slice numbers", slices.len());
     }
 }

@@ -1,7 +1,8 @@
 //! The port and the Rust side by side in one run, on the same inputs. The Rust comes in the best forms that are known for it: with the same
 //! checks as the port and without them, and for pictures each also with a short way for blocks of no or one coefficient; the faster of the two is
-//! what the port is held against; so are turn lists, where the short way looks at eight marks together. The 8x8 inverse and the turn lists are those that
-//! the differential runs compare with. All are timed in turns, many times; what is told is the median of the ratios with the quartiles around it.
+//! what the port is held against; so are turn lists, where the short way looks at eight marks together, and numbers of turns, where it looks at no more of
+//! a row than tells them. The 8x8 inverse, the turn lists and the numbers of turns are those that the differential runs compare with. All are timed in turns,
+//! many times; what is told is the median of the ratios with the quartiles around it.
 //!
 //! `bench FOLDER [ROUNDS [PART]]` writes table.md, benchmark.svg and, of all rows, headline.md into the folder; with PART the rows that have it in
 //! their names. Where valgrind is installed the table also has the instructions of each side: valgrind runs this program again with `count`, which
@@ -648,7 +649,7 @@ fn waiting() -> Vec<Row> {
 
 const SIZES: [(u32, u32); 3] = [(11, 9), (40, 22), (120, 68)];
 
-/// What the calls for a turn are lent, in one slice.
+/// What the calls for turns are lent, in one slice.
 #[derive(Clone)]
 struct Maps {
     w: u32,
@@ -664,6 +665,12 @@ impl Maps {
     fn new(w: u32, h: u32) -> Maps {
         let n = (w * h) as usize;
         Maps { w, h, done: vec![0; n], slices: vec![0; n], rows: vec![0; h as usize], list: vec![0; h as usize], how_many: 0 }
+    }
+
+    /// The same in eight slices that end within a row.
+    fn in_eight_slices(w: u32, h: u32) -> Maps {
+        let of_slice = w * h / 8 + 1;
+        Maps { slices: (0..w * h).map(|a| (a / of_slice) as u16).collect(), ..Maps::new(w, h) }
     }
 
     /// A picture of which half is done: of each turn one macroblock at random.
@@ -686,6 +693,10 @@ impl Maps {
         turns::turn::<CHECKS, SHORT>(self.w, self.h, &self.done, &self.slices, &self.rows, &mut self.list, &mut self.how_many)
     }
 
+    fn rust_turns<const CHECKS: bool, const SHORT: bool>(&mut self) -> u32 {
+        turns::turns::<CHECKS, SHORT>(self.w, self.h, &self.slices, &mut self.how_many)
+    }
+
     fn port_count(&mut self) -> u32 {
         let (done, rows) = (&self.done, &mut self.rows);
         unsafe { jiwarbend_count_rows(self.w, self.h, done.as_ptr(), done.len(), rows.as_mut_ptr(), rows.len()) }
@@ -695,6 +706,10 @@ impl Maps {
         let Maps { w, h, done, slices, rows, list, how_many } = self;
         let (d, s, r, l) = (done.as_ptr(), slices.as_ptr(), rows.as_ptr(), list.as_mut_ptr());
         unsafe { jiwarbend_turn(*w, *h, d, done.len(), s, slices.len(), r, rows.len(), l, list.len(), how_many) }
+    }
+
+    fn port_turns(&mut self) -> u32 {
+        unsafe { jiwarbend_turns(self.w, self.h, self.slices.as_ptr(), self.slices.len(), &mut self.how_many) }
     }
 
     /// Takes turn after turn until all is done, and gives their number.
@@ -711,30 +726,36 @@ impl Maps {
     }
 }
 
-/// A call over pictures that are half done, of each side.
-fn half_done(name: String, halves: &[Maps], calls: [&dyn Fn(&mut Maps) -> u32; 5]) -> Row {
-    let mut of_sides = vec![halves.to_vec(); 5];
+/// A call over the same pictures on each side.
+fn over_pictures(name: String, pictures: &[Maps], calls: [&dyn Fn(&mut Maps) -> u32; 5]) -> Row {
+    let mut of_sides = vec![pictures.to_vec(); 5];
     let mut sides: Vec<_> = of_sides
         .iter_mut()
         .zip(calls)
-        .map(|(halves, call)| {
+        .map(|(pictures, call)| {
             move |i: usize| {
-                let one = i % halves.len();
-                assert_eq!(call(black_box(&mut halves[one])), 0);
+                let one = i % pictures.len();
+                assert_eq!(call(black_box(&mut pictures[one])), 0);
             }
         })
         .collect();
-    compare("turns", name, 1.0, sides.iter_mut().map(|side| side as Timed).collect())
+    let row = compare("turns", name, 1.0, sides.iter_mut().map(|side| side as Timed).collect());
+    drop(sides);
+    for of_side in &of_sides {
+        let same = |(a, b): (&Maps, &Maps)| (&a.rows, &a.list, a.how_many) == (&b.rows, &b.list, b.how_many);
+        assert!(of_side.iter().zip(&of_sides[PORT]).all(same), "every side said the same of each picture");
+    }
+    row
 }
 
-/// The row counts and the turns of pictures that are half done, and all turns of a picture with their counts. The short cut is to look at eight marks together.
+/// The row counts and the turns of pictures that are half done, all turns of a picture with their counts, and their number.
 fn turn_lists() -> Vec<Row> {
     let mut random = Random::new(5);
     let mut rows = Vec::new();
     for (w, h) in SIZES {
         let halves: Vec<Maps> = (0..16).map(|_| Maps::half_done(&mut random, w, h)).collect();
         let name = |call: &str| format!("{call} of {w} by {h} macroblocks");
-        rows.push(half_done(
+        rows.push(over_pictures(
             name("count_rows, half"),
             &halves,
             [
@@ -745,7 +766,7 @@ fn turn_lists() -> Vec<Row> {
                 &Maps::rust_count::<false, true>,
             ],
         ));
-        rows.push(half_done(
+        rows.push(over_pictures(
             name("turn, half"),
             &halves,
             [
@@ -770,6 +791,19 @@ fn turn_lists() -> Vec<Row> {
                 &mut |_| assert_eq!(black_box(&mut e).take_all(Maps::rust_count::<false, true>, Maps::rust_turn::<false, true>), turns),
             ],
         ));
+        for (slices, maps) in [("one slice", Maps::new(w, h)), ("8 slices", Maps::in_eight_slices(w, h))] {
+            rows.push(over_pictures(
+                name(&format!("turns, {slices}")),
+                &[maps],
+                [
+                    &Maps::rust_turns::<true, false>,
+                    &Maps::rust_turns::<false, false>,
+                    &Maps::port_turns,
+                    &Maps::rust_turns::<true, true>,
+                    &Maps::rust_turns::<false, true>,
+                ],
+            ));
+        }
     }
     rows
 }
@@ -891,7 +925,7 @@ const GROUPS: [(&str, &str); 8] = [
     ("sparse", "Whole pictures with as few coefficients as those, nanoseconds for a macroblock"),
     ("random", "Whole pictures with numbers at random, nanoseconds for a macroblock"),
     ("waiting", "Macroblocks that are refused as not ready, nanoseconds for a call"),
-    ("turns", "Row counts and turn lists, nanoseconds for a call; all turns of a picture, for a turn with its counts"),
+    ("turns", "Row counts, turn lists and numbers of turns, nanoseconds for a call; all turns of a picture, for a turn with its counts"),
     ("prediction", "Prediction, nanoseconds for a block"),
     ("sums", "Inverses and clipped sums, nanoseconds for a block"),
     ("small", "Small routines and start, nanoseconds for a call"),
@@ -976,7 +1010,8 @@ fn headline(rows: &[Row]) -> String {
 
 fn plot(rows: &[Row]) -> String {
     let (left, scale, line) = (290.0, 220.0, 16.0);
-    let most = rows.iter().map(|r| r.ratio(true).high).fold(1.5, f64::max).ceil();
+    // A bar that would be longer ends at the edge and has its figure in it.
+    let most = rows.iter().map(|r| r.ratio(true).high).fold(1.5, f64::max).ceil().min(4.0);
     let (width, height) = (left + scale * most + 20.0, 50.0 + line * rows.len() as f64);
     let mut out = String::new();
     writeln!(
@@ -998,9 +1033,14 @@ fn plot(rows: &[Row]) -> String {
         let ratio = r.ratio(true);
         let colour = if ratio.middle <= 1.0 { "#4a8f5c" } else { "#c9803a" };
         writeln!(out, "<text x=\"{:.0}\" y=\"{:.1}\" text-anchor=\"end\">{}</text>", left - 8.0, y + 9.0, r.name).unwrap();
-        writeln!(out, "<rect x=\"{left}\" y=\"{y:.1}\" width=\"{:.1}\" height=\"10\" fill=\"{colour}\"/>", scale * ratio.middle).unwrap();
-        let (from, to) = (left + scale * ratio.low, left + scale * ratio.high);
+        let [low, middle, high] = [ratio.low, ratio.middle, ratio.high].map(|share| scale * share.min(most));
+        writeln!(out, "<rect x=\"{left}\" y=\"{y:.1}\" width=\"{middle:.1}\" height=\"10\" fill=\"{colour}\"/>").unwrap();
+        let (from, to) = (left + low, left + high);
         writeln!(out, "<line x1=\"{from:.1}\" y1=\"{0:.1}\" x2=\"{to:.1}\" y2=\"{0:.1}\" stroke=\"black\"/>", y + 5.0).unwrap();
+        if ratio.middle > most {
+            let x = left + middle - 6.0;
+            writeln!(out, "<text x=\"{x:.0}\" y=\"{:.1}\" text-anchor=\"end\" fill=\"white\">{:.1}</text>", y + 9.0, ratio.middle).unwrap();
+        }
     }
     out + "</svg>\n"
 }

@@ -6,7 +6,8 @@
 //! near the ends of the range gives seldom. What the Rust says of a 4x4 or 8x8 case is also due, transposed, of the case turned on its side.
 //! What a mode reads, and so what a macroblock waits for, was found by trial with the Rust's predictors (`oracle::reads`); calls that are accepted beside an
 //! undone neighbour are counted, and a run without them is a failure. The turn list has no Rust to be held against: a second writing of its rule stands
-//! for it (`oracle::turns`).
+//! for it (`oracle::turns`). The number of turns is held against the turns that this one takes, and a run in which it never hangs on one of the neighbours is
+//! a failure.
 use harness::ends::{at_an_end, bring_in, past_an_end};
 use harness::{block_marks, good_record, good_records, shuffled, slice_map, Guarded, Memory, Random, Record};
 use jiwarbend::block;
@@ -1319,6 +1320,115 @@ fn turn_lists(report: &mut Report) {
     }
 }
 
+/// What the call for the number of turns is lent, between guards.
+#[derive(Clone, Debug, PartialEq, Eq)]
+struct Sliced {
+    w: u32,
+    h: u32,
+    slices: Guarded<u16>,
+    turns: Guarded<u32>,
+}
+
+impl Sliced {
+    /// A picture of this size in slices of any kind. Some numbers differ in one of their bytes only.
+    fn new(random: &mut Random, (w, h): (u32, u32)) -> Sliced {
+        let (n, width) = ((w * h) as usize, w as usize);
+        let (rows, run, few) = (1 + random.below(h as usize), 1 + random.below(3 * width), 2 + random.below(4));
+        let of: &dyn Fn(&mut Random, usize) -> usize = match random.below(8) {
+            0 => &|_, _| 0,
+            1 => &|_, a| a / width / rows,
+            2 => &|_, a| a / run,
+            3 => &|_, a| (a % width + a / width) % 2,
+            4 => &|_, a| a % width / rows,
+            5 => &|_, a| (a % width + rows * (a / width)) % few,
+            6 => &|random, _| [0, 256, 65_535, 255, 1][random.below(few)],
+            _ => &|_, a| a,
+        };
+        let slices: Vec<u16> = (0..n).map(|a| of(random, a) as u16).collect();
+        Sliced { w, h, slices: Guarded::new(&slices), turns: Guarded::new(&[random.word() as u32]) }
+    }
+
+    fn port(&mut self) -> u32 {
+        let (slices, turns) = (self.slices.inner(), self.turns.inner());
+        unsafe { jiwarbend_turns(self.w, self.h, slices.as_ptr(), slices.len(), turns.as_mut_ptr()) }
+    }
+
+    fn rust(&mut self, form: fn(u32, u32, &[u16], &mut u32) -> u32) -> u32 {
+        form(self.w, self.h, self.slices.inner(), &mut self.turns.inner()[0])
+    }
+
+    /// Compares the port with the turns that are taken, and gives the answer. The forms of the benchmark say the same.
+    fn compare(&self, routine: &mut Routine) -> u32 {
+        let (mut ours, mut wanted) = (self.clone(), self.clone());
+        let (answer, said) = (ours.port(), wanted.rust(turns::turns_taken));
+        let with_checks = [turns::turns::<true, false>, turns::turns::<true, true>];
+        let without = [turns::turns::<false, false>, turns::turns::<false, true>];
+        for form in with_checks.into_iter().chain(without.into_iter().filter(|_| said == 0)) {
+            let mut other = self.clone();
+            assert_eq!((other.rust(form), &other), (said, &wanted), "the turns that are taken and those that are counted");
+        }
+        routine.told((answer, ours), (said, wanted), || format!("{self:?}"));
+        said
+    }
+
+    /// The number of turns if none waited for one of its neighbours A, B, C and D, or for A only within a slice.
+    fn without(&mut self, left_out: usize) -> u32 {
+        let (w, slices) = (self.w as usize, self.slices.inner());
+        let mut turns = vec![0; slices.len()];
+        for at in 0..slices.len() {
+            let n = driver::near(w, slices, at % w, at / w);
+            let beside = [(n.a, 1), (n.b, w), (n.c, w - 1), (n.d, w + 1), (!n.a && at % w > 0, 1)];
+            let waits = (0..5).filter(|&k| k != left_out && beside[k].0).map(|k| turns[at - beside[k].1]);
+            turns[at] = 1 + waits.max().unwrap_or(0);
+        }
+        turns.into_iter().max().unwrap_or(0)
+    }
+}
+
+/// The ways in which a call for the number of turns is bent.
+const BENT_SLICED: [fn(&mut Sliced, &mut Random); 3] = [
+    |s, random| s.w = random.pick(&[0, 121, u32::MAX, 1 << 16, s.w.wrapping_add(1), s.w.wrapping_sub(1)]),
+    |s, random| s.h = random.pick(&[0, 69, u32::MAX, 1 << 16, s.h.wrapping_add(1), s.h.wrapping_sub(1)]),
+    |s, random| resize(&mut s.slices, random),
+];
+
+/// The number of turns over slice maps of every kind: sizes at their limits, one column and one row, small and large ones, each as it is and bent.
+fn turn_counts(report: &mut Report) {
+    let (rounds, large) = (report.many(200_000), report.many(2_000));
+    let mut routine = report.routine("turns", &[0, 1, 2]);
+    let mut random = Random::new(23);
+    let limits = [(1, 1), (120, 1), (121, 1), (1, 68), (1, 69), (120, 68), (121, 68), (120, 69), (119, 67)];
+    let mut sizes: Vec<(u32, u32)> = limits.into_iter().flat_map(|size| [size; 40]).collect();
+    sizes.extend((0..rounds).map(|k| {
+        let mut up_to = |most: usize| 1 + random.below(most) as u32;
+        match k % 16 {
+            0 => (1, up_to(68)),
+            1 => (up_to(120), 1),
+            2 => (up_to(3), up_to(68)),
+            3 => (up_to(120), up_to(3)),
+            4 => (up_to(40), up_to(24)),
+            _ => (up_to(9), up_to(8)),
+        }
+    }));
+    sizes.extend((0..large).map(|k| if k % 2 == 0 { (120, 68) } else { (1 + random.below(120) as u32, 1 + random.below(68) as u32) }));
+    let mut hangs = [0; 5];
+    for size in sizes {
+        let mut sliced = Sliced::new(&mut random, size);
+        for _ in 0..random.pick(&[0, 0, 0, 0, 1, 2]) {
+            random.pick(&BENT_SLICED)(&mut sliced, &mut random);
+        }
+        if sliced.compare(&mut routine) == 0 {
+            let all = sliced.without(5);
+            (0..5).for_each(|k| hangs[k] += u64::from(sliced.without(k) != all));
+        }
+    }
+    let [a, b, c, d, other] = hangs;
+    println!("  so many hang on A in the slice: {a}, on B: {b}, on C: {c}, on D: {d}, and on A in another slice: {other}");
+    if hangs.contains(&0) {
+        routine.lacks += ", NONE THAT HANGS ON A NEIGHBOUR";
+    }
+}
+
 /// Whole pictures turn by turn, each turn in a shuffled order, against the Rust in raster order. The counts are kept by both sides, and bad calls come between.
 fn pictures_by_turns(report: &mut Report) {
     let rounds = report.many(2_000) / 4;
@@ -1337,6 +1447,8 @@ fn pictures_by_turns(report: &mut Report) {
             let said = wanted.rust(a as u32 % w, a as u32 / w, r.kind, &r.modes, r.chroma_mode, &r.numbers);
             assert_eq!(said, 0, "a good record is taken in raster order");
         }
+        let mut sliced = Sliced { w, h, slices: maps.slices.clone(), turns: Guarded::new(&[0]) };
+        let (counted, before) = ((sliced.port(), sliced.turns.inner()[0]), lists);
         let mut steady = true;
         while steady && port.progress.inner()[0] < w * h {
             maps.done = port.done.clone();
@@ -1353,9 +1465,10 @@ fn pictures_by_turns(report: &mut Report) {
             }
             lists += 1;
         }
-        routine.same((steady, &port.planes, &port.done), (true, &wanted.planes, &wanted.done), || format!("picture {round}, {w} by {h}"));
+        let (ours, due) = ((steady, counted, &port.planes, &port.done), (true, (0, lists - before), &wanted.planes, &wanted.done));
+        routine.same(ours, due, || format!("picture {round}, {w} by {h}"));
     }
-    println!("  {rounds} pictures took {lists} turns");
+    println!("  {rounds} pictures took {lists} turns, as many as were counted before");
 }
 
 fn main() {
@@ -1415,6 +1528,7 @@ fn main() {
     pictures(&mut report);
     pictures_early(&mut report);
     turn_lists(&mut report);
+    turn_counts(&mut report);
     pictures_by_turns(&mut report);
     println!("\nall calls, by answer:");
     for (answer, times) in report.seen.iter().enumerate() {
