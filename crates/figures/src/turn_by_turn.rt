@@ -125,8 +125,22 @@ fn how_many(what: &[u8], w: u32, h: u32, slices: &[u16]) {
     tell(b"  turns", turns);
 }
 
+// The same of a slice map of 8160 in one slice.
+fn how_many_8160(what: &[u8], w: u32, h: u32) {
+    how_many(what, w, h, &[0u16; 8160]);
+}
+
 pub(crate) fn how_many_turns() {
     how_many(b"turns, 3 by 2 in one slice", 3, 2, &[0u16; 6]);
+    sliced();
+    columns();
+    how_many_8160(b"turns, 120 by 68 in one slice", 120, 68);
+    refused_sizes();
+    how_many(b"turns, 3 by 2, a slice map of 5", 3, 2, &[0u16; 5]);
+    how_many(b"turns, 3 by 2, a slice map of 7", 3, 2, &[0u16; 7]);
+}
+
+fn sliced() {
     how_many(
         b"turns, 3 by 2, a slice for each row",
         3,
@@ -140,14 +154,17 @@ pub(crate) fn how_many_turns() {
         &[0u16, 0, 1, 1, 1, 1],
     );
     how_many(b"turns, 2 by 1 in two slices", 2, 1, &[0u16, 1]);
+}
+
+fn columns() {
     how_many(b"turns, 1 by 3 in one slice", 1, 3, &[0u16; 3]);
     how_many(b"turns, 1 by 3 in three slices", 1, 3, &[0u16, 1, 2]);
     how_many(b"turns, 1 by 1", 1, 1, &[65535u16; 1]);
-    how_many(b"turns, 120 by 68 in one slice", 120, 68, &[0u16; 8160]);
     how_many(b"turns, 1 by 68 in one slice", 1, 68, &[0u16; 68]);
-    how_many(b"turns, 121 by 68", 121, 68, &[0u16; 8160]);
-    how_many(b"turns, 120 by 69", 120, 69, &[0u16; 8160]);
+}
+
+fn refused_sizes() {
+    how_many_8160(b"turns, 121 by 68", 121, 68);
+    how_many_8160(b"turns, 120 by 69", 120, 69);
     how_many(b"turns, 0 by 1, no slices", 0, 1, &[0u16; 0]);
-    how_many(b"turns, 3 by 2, a slice map of 5", 3, 2, &[0u16; 5]);
-    how_many(b"turns, 3 by 2, a slice map of 7", 3, 2, &[0u16; 7]);
 }
