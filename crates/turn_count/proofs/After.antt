@@ -25,7 +25,7 @@ use Rattle.turn_list.proofs.Leading.{leading-is, leads-same}
 use Rattle.turn_list.proofs.Startable.{turn-named, turn-names, turn-starts, turn-first}
 use Rattle.turn_count.specs.Count.{doneAfter, unfinished, turnCount}
 use Rattle.turn_count.specs.Due.{due, latest}
-use Rattle.turn_count.proofs.Due.{within-due, due-within, due-some, due-row, due-address, due-column, due-wave}
+use Rattle.turn_count.proofs.Due.{waits-due, due-waits, due-some, due-row, due-address, due-column, due-wave}
 use Rattle.turn_count.proofs.Latest.{latest-upper, latest-least}
 
 module _ (w h : ℕ) (slices : List ℕ) where
@@ -74,7 +74,7 @@ module _ (w h : ℕ) (slices : List ℕ) where
     listed-by : Names (listed t) (address w x y) → due w slices x y ≤ suc t
     listed-by n =
         let s = turn-starts w slices (after t) h x y (p .in-w) n in
-        within-due w slices t x y (record {
+        waits-due w slices t x y (record {
           before = λ l. let low : x - 1 < x = omega arith in by (x - 1) y (in-row (x - 1) low) .0 (s .left (x - 1) low);
           sides = λ k e. let b = available-at w x y slices k (p .in-w) e in
               by (besideX x k) (besideY y k) (record { in-w = b .column; in-h = omega (arith, b .row, p .in-h) }) .0 (s .ready k e);
@@ -86,7 +86,7 @@ module _ (w h : ℕ) (slices : List ℕ) where
           undone = u;
           left = λ i b. by i y (in-row i b) .1 (omega (arith, due-row w slices i x y b));
           ready = λ k e. let b = available-at w x y slices k (p .in-w) e in
-              by (besideX x k) (besideY y k) (record { in-w = b .column; in-h = omega (arith, b .row, p .in-h) }) .1 (due-within w slices t x y l .sides k e);
+              by (besideX x k) (besideY y k) (record { in-w = b .column; in-h = omega (arith, b .row, p .in-h) }) .1 (due-waits w slices t x y l .sides k e);
         })
 
     by-more : Done (after (suc t)) (address w x y) → due w slices x y ≤ suc t

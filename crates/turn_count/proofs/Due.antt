@@ -44,22 +44,22 @@ module _ (w : ℕ) (slices : List ℕ) where
   recurrence x (suc y) = in-row (λ i. due w slices i y) (suc y) x (λ i. refl) (λ i. above-next i y)
 
   -- ---- due by turn t + 1 is: what it waits for is due by turn t
-  pub record Within (t x y : ℕ) : Type 0 where
+  pub record WaitsUntil (t x y : ℕ) : Type 0 where
     pub before : 0 < x → due w slices (x - 1) y ≤ t
     pub sides : (k : Side) → available w slices x y k ≡ true → due w slices (besideX x k) (besideY y k) ≤ t
 
   pub due-some : (x y : ℕ) → 0 < due w slices x y
   due-some x y = omega (arith, recurrence x y)
 
-  pub within-due : (t x y : ℕ) → Within t x y → due w slices x y ≤ suc t
-  within-due t x y p =
+  pub waits-due : (t x y : ℕ) → WaitsUntil t x y → due w slices x y ≤ suc t
+  waits-due t x y p =
       omega (arith, recurrence x y, choose (λ m. m ≤ t) (ltb 0 x) (due w slices (x - 1) y) 0 (λ e. p .before (ltb-true 0 x e)) (λ e. zero-le), on B, on C, on D)
     where
       on : (k : Side) → dueOn w slices x y k ≤ t
       on k = choose (λ m. m ≤ t) (available w slices x y k) (due w slices (besideX x k) (besideY y k)) 0 (p .sides k) (λ e. zero-le)
 
-  pub due-within : (t x y : ℕ) → due w slices x y ≤ suc t → Within t x y
-  due-within t x y h = record { before = left; sides = sides }
+  pub due-waits : (t x y : ℕ) → due w slices x y ≤ suc t → WaitsUntil t x y
+  due-waits t x y h = record { before = left; sides = sides }
     where
       taken : (b : Bool) (u : ℕ) → cond b u 0 ≤ t → b ≡ true → u ≤ t
       taken true u l e = l
@@ -75,8 +75,8 @@ module _ (w : ℕ) (slices : List ℕ) where
       sides D e = taken (available w slices x y D) (due w slices (besideX x D) (besideY y D)) (omega (arith, recurrence x y)) e
 
   -- so it is due after each of them
-  waits : (x y : ℕ) → Within (due w slices x y - 1) x y
-  waits x y = due-within (due w slices x y - 1) x y (omega arith)
+  waits : (x y : ℕ) → WaitsUntil (due w slices x y - 1) x y
+  waits x y = due-waits (due w slices x y - 1) x y (omega arith)
 
   pub due-side : (x y : ℕ) (k : Side) → available w slices x y k ≡ true → due w slices (besideX x k) (besideY y k) < due w slices x y
   due-side x y k e = omega (arith, waits x y .sides k e, due-some x y)
@@ -105,7 +105,7 @@ module _ (w : ℕ) (slices : List ℕ) where
     by-address : (m x y : ℕ) → address w x y < m → x < w → due w slices x y ≤ suc (f x y)
     by-address zero x y h hx = absurd (not-suc-le-zero h)
     by-address (suc m) x y h hx =
-        within-due (f x y) x y (record {
+        waits-due (f x y) x y (record {
           before = λ l. let p : address w (x - 1) y < m = omega arith in
               let q : x - 1 < w = omega arith in
               omega (arith, by-address m (x - 1) y p q, grows x y l);

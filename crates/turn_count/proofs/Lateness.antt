@@ -58,7 +58,7 @@ module _ (w : ℕ) (slices : List ℕ) where
   taken-off : (x d p q : ℕ) {r t : ℕ} → d ≡ 1 + max r t → x < d → r ≤ p + x → t ≤ q + x → p ≤ d - (x + 1) → q ≤ d - (x + 1) → d - (x + 1) ≡ max p q
   taken-off x d p q e l a b f g = omega arith
 
-  pub late-zero : (y : ℕ) → late w slices 0 y ≡ lateAbove w slices 0 y
+  late-zero : (y : ℕ) → late w slices 0 y ≡ lateAbove w slices 0 y
   late-zero y =
       taken-off 0 (due w slices 0 y) 0 (lateAbove w slices 0 y) (recurrence w slices 0 y) (due-column w slices 0 y) zero-le (above-most 0 y) zero-le
       (above-least 0 y)
@@ -69,7 +69,8 @@ module _ (w : ℕ) (slices : List ℕ) where
       let q : suc x - 1 ≡ x = omega arith in
       let e : dueBefore w slices (suc x) y ≡ due w slices x y = rw (lt-ltb 0 (suc x) (omega arith), q) in
       taken-off (suc x) (due w slices (suc x) y) (late w slices x y) (lateAbove w slices (suc x) y) (recurrence w slices (suc x) y)
-      (due-column w slices (suc x) y) (omega (arith, due-late x y)) (above-most (suc x) y) (omega (arith, due-late x y, due-next w slices x y)) (above-least (suc x) y)
+      (due-column w slices (suc x) y) (omega (arith, due-late x y)) (above-most (suc x) y) (omega (arith, due-late x y, due-next w slices x y))
+      (above-least (suc x) y)
 
   pub late-latest : (x y : ℕ) → late w slices x y ≡ latest (x + 1) (λ i. lateAbove w slices i y)
   late-latest zero y =
@@ -79,7 +80,7 @@ module _ (w : ℕ) (slices : List ℕ) where
       let f : ℕ → ℕ = λ i. lateAbove w slices i y in
       late-next x y ∙ latest-more (suc x) f (late w slices x y) (f (suc x)) (late-latest x y ∙ ap (λ n. latest n f) (add-one x)) refl
 
-  pub late-along : (i x y : ℕ) → i ≤ x → late w slices i y ≤ late w slices x y
+  late-along : (i x y : ℕ) → i ≤ x → late w slices i y ≤ late w slices x y
   late-along i x y l =
       omega (arith, late-latest i y, late-latest x y, latest-along (i + 1) (x + 1) (λ j. lateAbove w slices j y) (omega arith))
 

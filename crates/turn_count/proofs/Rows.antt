@@ -103,15 +103,15 @@ module _ (w : ℕ) (slices : List ℕ) (y : ℕ) where
       go (yes q) = subst (λ i. getD (set (set a 0 f) (w - 1) l) i 0 ≡ lateAbove w slices i y) (sym q) last
       go (no q) = getD-set-other (set a 0 f) (w - 1) 0 l 0 q ∙ getD-set-same a 0 f 0 (omega arith) ∙ e
 
-  pub record Between (x : ℕ) (above : List ℕ) : Type 0 where
+  pub record Columns (x : ℕ) (above : List ℕ) : Type 0 where
     pub some : 1 ≤ x
     pub most : x ≤ 120
     pub long : length above ≡ 120
     pub is : (i : ℕ) → i < x → getD above i 0 ≡ lateAbove w slices i y
     pub last : getD above (w - 1) 0 ≡ lateAbove w slices (w - 1) y
 
-  pub between-none : (above : List ℕ) → Edges w slices y above → Between 1 above
-  between-none above e = record {
+  pub columns-none : (above : List ℕ) → Edges w slices y above → Columns 1 above
+  columns-none above e = record {
     some = omega arith;
     most = omega arith;
     long = e .long;
@@ -119,8 +119,8 @@ module _ (w : ℕ) (slices : List ℕ) (y : ℕ) where
     last = e .last;
   }
 
-  pub between-more : (x n : ℕ) (above : List ℕ) → x + 1 < w → w ≤ 120 → n ≡ lateAbove w slices x y → Between x above → Between (x + 1) (set above x n)
-  between-more x n above h l e b = record {
+  pub columns-more : (x n : ℕ) (above : List ℕ) → x + 1 < w → w ≤ 120 → n ≡ lateAbove w slices x y → Columns x above → Columns (x + 1) (set above x n)
+  columns-more x n above h l e b = record {
     some = omega arith;
     most = omega arith;
     long = length-set above x n ∙ b .long;
@@ -132,8 +132,8 @@ module _ (w : ℕ) (slices : List ℕ) (y : ℕ) where
       at i k (yes q) = rw q (getD-set-same above x n 0 (omega (arith, b .long)) ∙ e)
       at i k (no q) = getD-set-other above x i n 0 q ∙ b .is i (omega arith)
 
-  pub between-all : (x : ℕ) (above : List ℕ) → w ≤ x + 1 → Between x above → AboveRow w slices y above
-  between-all x above h b = record { long = b .long; is = λ i k. at i k (decLt i x) }
+  pub columns-all : (x : ℕ) (above : List ℕ) → w ≤ x + 1 → Columns x above → AboveRow w slices y above
+  columns-all x above h b = record { long = b .long; is = λ i k. at i k (decLt i x) }
     where
       at : (i : ℕ) → i < w → Dec (i < x) → getD above i 0 ≡ lateAbove w slices i y
       at i k (yes l) = b .is i l

@@ -20,7 +20,8 @@ module _ (w h : ℕ) (slices : List ℕ) where
   abbrev pub unfinished : ℕ → Bool
   unfinished t = not (allBelow (total w h) (isDone (doneAfter t)))
 
-  -- the first t for which they do not. That it is looked for among 0, 1, .., W * H is enough, and need not be believed: `HowMany.finished` speaks of every t
+  -- the first t for which they leave none. It is looked for among 0, 1, .., W * H; that this is enough need not be believed, since `HowMany.finished` speaks
+  -- of every t
   unfoldable pub turnCount : ℕ
   turnCount = leading (total w h) unfinished
 

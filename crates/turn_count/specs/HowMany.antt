@@ -33,7 +33,7 @@ pub record HowMany (w h : ℕ) (slices : List ℕ) : Type 0 where
   -- for every slice map
   pub least : w ≤ turnCount w h slices
   pub most : turnCount w h slices ≤ w + 2 * (h - 1)
-  -- ---- in one slice: the second row starts two behind the first, and a single column goes down one by one
+  -- ---- in one slice: each row starts two turns behind the row above, and a single column goes down one by one
   pub wide-due : OneSlice w h slices → 2 ≤ w → (x y : ℕ) → Stands w h x y → due w slices x y ≡ 1 + x + 2 * y
   pub wide : OneSlice w h slices → 2 ≤ w → turnCount w h slices ≡ w + 2 * (h - 1)
   pub narrow-due : OneSlice w h slices → w ≡ 1 → (y : ℕ) → y < h → due w slices 0 y ≡ 1 + y

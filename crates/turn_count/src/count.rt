@@ -5,7 +5,7 @@ ghost use lib.ListN.{length};
 ghost use Rattle.laws.specs.Answer.{written};
 ghost use Rattle.turn_count.specs.Count.{turnCount, turnCountAnswer};
 ghost use Rattle.turn_count.specs.Due.{latest};
-ghost use Rattle.turn_count.specs.inner.Late.{Mapped, late};
+ghost use Rattle.turn_count.specs.inner.Late.{SliceMap, late};
 use super::late::late_row;
 use super::late::later;
 use basics::mean::wide;
@@ -28,7 +28,7 @@ pub fn count_turns(w: u32, h: u32, slices: &[u16], turns: &mut u32) -> u32
 
 // How late the last macroblock of the latest row is. The first row is not late at all.
 fn latest_row(w: u32, h: u32, slices: &[u16]) -> u8
-    requires { ⌜ Mapped w h (now slices) ⌝ }
+    requires { ⌜ SliceMap w h (now slices) ⌝ }
     ensures { λ r. ⌜ r ≡ latest h (λ y. late w (now (slices .entry)) (w - 1) y) ⌝ }
 {
     let mut row = [0u8; 120];

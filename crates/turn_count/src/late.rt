@@ -6,13 +6,13 @@ ghost use Prim.Native.Nat.{_+_, _-_, _≤_, _<_, max};
 ghost use lib.Dec.{eqb};
 ghost use lib.ListN.{length, getD};
 ghost use Rattle.maps.specs.Size.{Stands};
-ghost use Rattle.turn_count.specs.inner.Late.{Mapped, late, lateAbove, LateRow, AboveRow, Rows, Edges, RunOn};
+ghost use Rattle.turn_count.specs.inner.Late.{SliceMap, late, lateAbove, LateRow, AboveRow, Under, Edges, RunOn};
 use maps::neighbours::marks_of;
 
 // Brings the numbers from the row above to row y, and answers how late its last macroblock is. None of a row is more than two turns later than the last one
 // above: where the first one is that already, all of them are.
 pub(crate) fn late_row(w: u32, h: u32, y: u32, slices: &[u16], row: &mut [u8; 120]) -> u8
-    requires { ⌜ Mapped w h (now slices) × (0 < y) × (y < h) × LateRow w (now slices) (y - 1) (now row) ⌝ }
+    requires { ⌜ SliceMap w h (now slices) × (0 < y) × (y < h) × LateRow w (now slices) (y - 1) (now row) ⌝ }
     ensures { λ r. ⌜ (r ≡ late w (now (slices .entry)) (w - 1) y) × LateRow w (now (slices .entry)) y (now (row .exit)) ⌝ }
 {
     let most = row[(w as usize) - 1] + 2;
@@ -30,7 +30,7 @@ pub(crate) fn late_row(w: u32, h: u32, y: u32, slices: &[u16], row: &mut [u8; 12
 
 // How late those above make the macroblock in column x.
 fn late_at(w: u32, h: u32, x: u32, y: u32, slices: &[u16], row: &[u8; 120]) -> u8
-    requires { ⌜ Mapped w h (now slices) × (0 < y) × Stands w h x y × LateRow w (now slices) (y - 1) (now row) ⌝ }
+    requires { ⌜ SliceMap w h (now slices) × Stands w h x y × LateRow w (now slices) (y - 1) (now row) ⌝ }
     ensures { λ r. ⌜ r ≡ lateAbove w (now (slices .entry)) x y ⌝ }
 {
     let marks = marks_of(slices, w, h, x, y);
@@ -40,7 +40,7 @@ fn late_at(w: u32, h: u32, x: u32, y: u32, slices: &[u16], row: &[u8; 120]) -> u
     later(b, later(c, d))
 }
 
-// So much more than the neighbour of column x that makes it so much later, if that one is available.
+// How late a neighbour above makes column x: so many turns more than it is itself, if it is available. It stands in column x + more - 1.
 fn if_marked(mark: bool, row: &[u8; 120], x: usize, more: u8) -> u8
     requires { ⌜ (mark ≡ true → (1 ≤ x + more) × (x + more ≤ 120) × (getD (now row) (x + more - 1) 0 + more ≤ 255)) ⌝ }
     ensures { λ r. ⌜ r ≡ cond mark (getD (now (row .entry)) (x + more - 1) 0 + more) 0 ⌝ }
@@ -53,7 +53,7 @@ fn if_marked(mark: bool, row: &[u8; 120], x: usize, more: u8) -> u8
 
 // How late those above make the macroblocks between the first column and the last.
 fn late_between(w: usize, y: usize, slices: &[u16], row: &[u8; 120], above: &mut [u8; 120])
-    requires { ⌜ Rows w (now slices) y (now row) × Edges w (now slices) y (now above) ⌝ }
+    requires { ⌜ Under w (now slices) y (now row) × Edges w (now slices) y (now above) ⌝ }
     ensures { λ _. ⌜ AboveRow w (now (slices .entry)) y (now (above .exit)) ⌝ }
 {
     let mut x = 1;
@@ -65,7 +65,7 @@ fn late_between(w: usize, y: usize, slices: &[u16], row: &[u8; 120], above: &mut
 
 // The same of one macroblock that has all three neighbours above.
 fn late_under_three(w: usize, x: usize, y: usize, slices: &[u16], row: &[u8; 120]) -> u8
-    requires { ⌜ Rows w (now slices) y (now row) × (0 < x) × (x + 1 < w) ⌝ }
+    requires { ⌜ Under w (now slices) y (now row) × (0 < x) × (x + 1 < w) ⌝ }
     ensures { λ r. ⌜ r ≡ lateAbove w (now (slices .entry)) x y ⌝ }
 {
     let here = y * w + x;

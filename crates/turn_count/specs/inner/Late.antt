@@ -10,7 +10,7 @@ use Rattle.maps.specs.Size.{Size, total}
 use Rattle.turn_count.specs.Due.{due, latest}
 
 -- a slice map of good size
-pub record Mapped (w h : ℕ) (slices : List ℕ) : Type 0 where
+pub record SliceMap (w h : ℕ) (slices : List ℕ) : Type 0 where
   pub size : Size w h
   pub long : length slices ≡ total w h
 
@@ -46,7 +46,7 @@ pub record Edges (w : ℕ) (slices : List ℕ) (y : ℕ) (above : List ℕ) : Ty
   pub last : getD above (w - 1) 0 ≡ lateAbove w slices (w - 1) y
 
 -- row y and the row above lie in a slice map, and how late the row above is stands in `row`
-pub record Rows (w : ℕ) (slices : List ℕ) (y : ℕ) (row : List ℕ) : Type 0 where
+pub record Under (w : ℕ) (slices : List ℕ) (y : ℕ) (row : List ℕ) : Type 0 where
   pub most-w : w ≤ 120
   pub some-y : 0 < y
   pub most-y : y < 68

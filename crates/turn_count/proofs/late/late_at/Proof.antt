@@ -19,7 +19,7 @@ marked : (c : tie.After-marks-of) (k : Side)
 marked c k =
     let s = c .before .before in
     let a = s .args in
-    ap (λ f. f k) (c .marks-of .ensures ∙ marks-at (a .w) (a .h) (a .slices .now) (a .x) (a .y) (s .pre .0 .size) (s .pre .0 .long) (s .pre .2))
+    ap (λ f. f k) (c .marks-of .ensures ∙ marks-at (a .w) (a .h) (a .slices .now) (a .x) (a .y) (s .pre .0 .size) (s .pre .0 .long) (s .pre .1))
 
 -- a marked one lies in the row, and what stands there is small
 room : (c : tie.After-marks-of) (k : Side) → marksOf (c .marks-of .result) k ≡ true
@@ -27,8 +27,8 @@ room : (c : tie.After-marks-of) (k : Side) → marksOf (c .marks-of .result) k �
 room c k t =
     let s = c .before .before in
     let a = s .args in
-    row-room (a .w) (a .slices .now) (a .y) (a .x) (a .row .now) (s .pre .2 .in-w) (s .pre .3) k (s .pre .0 .size .most-w)
-    (omega (arith, s .pre .2 .in-h, s .pre .0 .size .most-h)) (sym (marked c k) ∙ t)
+    row-room (a .w) (a .slices .now) (a .y) (a .x) (a .row .now) (s .pre .1 .in-w) (s .pre .2) k (s .pre .0 .size .most-w)
+    (omega (arith, s .pre .1 .in-h, s .pre .0 .size .most-h)) (sym (marked c k) ∙ t)
 
 if-marked-requires : tie.Need-if-marked-requires
 if-marked-requires c κs = room c B
@@ -44,7 +44,7 @@ returns c =
     let m = c .before .before .before .before .before in
     let s = m .before .before in
     let a = s .args in
-    let on = on-column (a .w) (a .slices .now) (a .y) (a .x) (a .row .now) (s .pre .2 .in-w) (s .pre .3) in
+    let on = on-column (a .w) (a .slices .now) (a .y) (a .x) (a .row .now) (s .pre .1 .in-w) (s .pre .2) in
     c .later2 .ensures
     ∙ ap₂ max (c .before .before .before .before .if-marked .ensures ∙ on B _ refl (marked m B))
     (c .before .later .ensures

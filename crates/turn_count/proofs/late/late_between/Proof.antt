@@ -2,18 +2,18 @@
 use Prim.Native.Nat.{_-_}
 use native.Mathlib.Omega.{arith}
 use borrow.Author.Needs.{needs}
-use Rattle.turn_count.proofs.Rows.{Between, between-none, between-more, between-all}
+use Rattle.turn_count.proofs.Rows.{Columns, columns-none, columns-more, columns-all}
 use Rattle.turn_count.proofs.late.late_between.Statement.{statement}
 use Rattle.turn_count.proofs.late.late_between.Tie as tie
 
 abbrev Inv-loop : tie.InvT-loop
-Inv-loop w y slices row above₀ x₀ above x = Between w slices y x above
+Inv-loop w y slices row above₀ x₀ above x = Columns w slices y x above
 
 abbrev μ-loop : tie.MeasureT-loop
 μ-loop w y slices row above₀ x₀ above x = w - x
 
 loop-holds : tie.Need-loop-holds Inv-loop μ-loop
-loop-holds c = let s = c .before in let a = s .args in between-none (a .w) (a .slices .now) (a .y) (a .above .now) (s .pre .1)
+loop-holds c = let s = c .before in let a = s .args in columns-none (a .w) (a .slices .now) (a .y) (a .above .now) (s .pre .1)
 
 add-loop : tie.Need-add-loop Inv-loop μ-loop
 add-loop c = omega (arith, c .loop .inv .most)
@@ -29,14 +29,14 @@ loop-again c =
     let l = c .before .before .loop in
     let s = c .before .before .before .before in
     let a = s .args in
-    between-more (a .w) (a .slices .now) (a .y) (l .x) (c .late-under-three .result) (l .above) (omega arith) (s .pre .0 .most-w)
+    columns-more (a .w) (a .slices .now) (a .y) (l .x) (c .late-under-three .result) (l .above) (omega arith) (s .pre .0 .most-w)
     (c .late-under-three .ensures) (l .inv)
 
 returns : tie.Need-returns Inv-loop μ-loop
 returns c =
     let l = c .before .loop in
     let a = c .before .before .before .args in
-    between-all (a .w) (a .slices .now) (a .y) (l .x) (l .above) (omega arith) (l .inv)
+    columns-all (a .w) (a .slices .now) (a .y) (l .x) (l .above) (omega arith) (l .inv)
 
 pub late-between-spec : {M : Type 1} → statement M
 late-between-spec =

@@ -42,7 +42,8 @@ late-between-requires c κs =
         above = s .pre .3;
       },
       edges-put (a .w) (a .slices .now) (a .y) (replicate 120 0) (c .before .before .before .before .before .late-at .result)
-          (c .before .before .late-at2 .result) refl (g .size .some-w) (g .size .most-w) (c .before .before .before .before .before .late-at .ensures) (c .before .before .late-at2 .ensures),
+          (c .before .before .late-at2 .result) refl (g .size .some-w) (g .size .most-w)
+          (c .before .before .before .before .before .late-at .ensures) (c .before .before .late-at2 .ensures),
     )
 
 returns-2 : tie.Need-returns-2
