@@ -66,8 +66,9 @@ static unsigned offer_all(struct picture *p, const struct record *records)
     return offers;
 }
 
-/* Takes whole turns until all is done. None of their macroblocks is refused, in whatever order they come. Returns the number of turns, or 0. */
-static unsigned take_turns(struct picture *p, const struct record *records)
+/* Takes whole turns until all is done, and lists the macroblocks in their order. None is refused, in whatever order those of a turn come. Returns the
+   number of turns, or 0. */
+static unsigned take_turns(struct picture *p, const struct record *records, uint32_t *order)
 {
     uint32_t rows[H], list[H], how_many;
     unsigned turns = 0;
@@ -76,9 +77,11 @@ static unsigned take_turns(struct picture *p, const struct record *records)
             return 0;
         if (jiwarbend_turn(W, H, p->done, MANY, p->slices, MANY, rows, H, list, H, &how_many) != JIWARBEND_OK)
             return 0;
-        for (uint32_t k = how_many; k-- > 0;)
+        for (uint32_t k = how_many; k-- > 0;) {
+            order[p->progress.count] = list[k];
             if (rebuild(p, list[k] % W, list[k] / W, &records[list[k]]) != JIWARBEND_OK)
                 return 0;
+        }
         turns++;
     }
     return turns;
@@ -112,15 +115,27 @@ int main(void)
         return 1;
 
     /* The same picture turn by turn. The first macroblock of a row waits for the second of the row above: two turns more for each row. */
-    uint32_t turns;
+    uint32_t turns, order[MANY];
     memset(q.slices, 0, sizeof q.slices);
     if (jiwarbend_turns(W, H, q.slices, MANY, &turns) != JIWARBEND_OK || turns != W + 2 * (H - 1))
         return 1;
-    if (jiwarbend_start(W, H, q.done, MANY, &q.progress) != JIWARBEND_OK || take_turns(&q, records) != turns)
+    if (jiwarbend_start(W, H, q.done, MANY, &q.progress) != JIWARBEND_OK || take_turns(&q, records, order) != turns)
         return 1;
     if (memcmp(p.luma, q.luma, sizeof p.luma) != 0 || memcmp(p.cb, q.cb, sizeof p.cb) != 0 || memcmp(p.cr, q.cr, sizeof p.cr) != 0)
         return 1;
     printf("the same turn by turn, in the %u turns that were counted before\n", (unsigned)turns);
+
+    /* The list of the macroblocks in this order passes the check. With the first two exchanged it does not: the second reads from the first. */
+    uint32_t verdict, place;
+    if (jiwarbend_check_order(W, H, q.slices, MANY, order, MANY, &verdict) != JIWARBEND_OK || verdict != 1)
+        return 1;
+    order[0] = 1;
+    order[1] = 0;
+    if (jiwarbend_check_order(W, H, q.slices, MANY, order, MANY, &verdict) != JIWARBEND_OK || verdict != 0)
+        return 1;
+    if (jiwarbend_out_of_place(W, H, q.slices, MANY, order, MANY, &place) != JIWARBEND_OK || place != 0)
+        return 1;
+    printf("the order of these turns passes the check; with its first two entries exchanged, entry %u is out of place\n", (unsigned)place);
 
     /* A done macroblock is final. */
     return rebuild(&p, 0, 0, &records[0]) == JIWARBEND_DONE ? 0 : 1;

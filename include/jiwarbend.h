@@ -1,7 +1,7 @@
 /* Jiwarbend: H.264 intra pictures (8-bit, 4:2:0, progressive), rebuilt macroblock by macroblock and in any order.
 
    Every function takes any numbers and lists of any length, and ends. One that can refuse answers 0, or the first number that applies in the order
-   1, 2, 3, 4, 6, 7, 5, 8, 9:
+   1, 2, 3, 4, 6, 7, 5, 8, 9, 13:
 
      1  the picture's width is not 1..120 macroblocks, or its height not 1..68
      2  a stride, plane, map, list or count breaks the rules below, or a block's rows leave its buffer
@@ -13,8 +13,9 @@
      8  a number lies outside -32768..32767, or the inverse transform of a block of coefficients leaves the range that the standard demands of 8-bit
         samples: a value that 8.5.12.2 or 8.5.13.2 names lies outside -32768..32767, or above 32735 after the columns
      9  the row counts or the turn list have another length than the picture has rows, or a row count disagrees with the done map: count anew
+    13  the list of an order is not w * h long, or names an address outside the picture
 
-   A refused call writes nothing. Later versions may give further numbers: take an unknown one as a refusal.
+   No call answers 10, 11 or 12. A refused call writes nothing. Later versions may give further numbers: take an unknown one as a refusal.
 
    Memory. A list is a pointer and the number of its elements; the pointer is not null, also where the number is 0, and has the alignment of its
    element. What a call writes overlaps nothing else that the same call is lent. The library keeps nothing between two calls and takes no memory
@@ -24,8 +25,8 @@
    no lock, and expects that nobody else writes what it is lent or reads what it writes before it has returned. Two threads that call
    for one picture at the same time can leave its count wrong: give the picture a lock, or to one thread. jiwarbend_count_rows and jiwarbend_turn only
    read the maps: the one writes rows, the other list and how_many. So while no thread starts or rebuilds a picture, several may ask for its turn, each
-   with rows, list and how_many of its own. jiwarbend_turns reads the slice map alone, which no call writes: any thread may ask it at any time, each
-   with a number of its own.
+   with rows, list and how_many of its own. jiwarbend_turns reads the slice map alone, and jiwarbend_check_order and jiwarbend_out_of_place the slice map
+   and the list of an order, which no call writes: any thread may ask them at any time, each with a number of its own.
 
    Left out. Deblocking (a stream with the loop filter on gives other samples until it is applied), I_PCM macroblocks, entropy decoding,
    dequantisation, constrained intra prediction, field coding, prediction between pictures, other sample depths and chroma formats.
@@ -38,8 +39,8 @@
 #define JIWARBEND_H
 
 #define JIWARBEND_VERSION_MAJOR 0
-#define JIWARBEND_VERSION_MINOR 6
-#define JIWARBEND_VERSION_PATCH 1
+#define JIWARBEND_VERSION_MINOR 7
+#define JIWARBEND_VERSION_PATCH 0
 
 #include <stdbool.h>
 #include <stddef.h>
@@ -59,7 +60,8 @@ enum jiwarbend_answer {
     JIWARBEND_UNKNOWN = 6,
     JIWARBEND_NOT_PERMITTED = 7,
     JIWARBEND_RANGE = 8,
-    JIWARBEND_ROWS = 9
+    JIWARBEND_ROWS = 9,
+    JIWARBEND_ORDER = 13
 };
 
 /* The kinds of macroblocks, and the modes of luma 4x4 and 8x8, luma 16x16 and chroma blocks. */
@@ -161,6 +163,28 @@ uint32_t jiwarbend_turn(uint32_t w, uint32_t h, const uint8_t *done, size_t done
    available neighbours B, C and D; where it has none of these, in turn 1. A row is done with its last macroblock, and the picture with the latest row: in
    one slice of two columns or more, row y is done with turn w + 2 * y. This is proved too. So w * h / turns is how many cores have work on average. */
 uint32_t jiwarbend_turns(uint32_t w, uint32_t h, const uint16_t *slices, size_t slices_len, uint32_t *turns);
+
+/* Checks an order for a whole picture, such as a partner's scheduler sends it: a list of w * h addresses, y * w + x. The verdict becomes 1, yes, where the
+   list names every macroblock once and each after all its available neighbours A, B, C and D; else it becomes 0, no. Size, slice map and list tell it, so
+   that it can be asked before the start; map and list are only read. Answers 0, 1, 2 for the map's length, or 13 for a list of another length than w * h or
+   with an address of w * h or more.
+
+   Yes: replayed from a start through jiwarbend_rebuild, each macroblock with an acceptable record, the list meets no refusal and finishes the picture.
+
+   No: a replay may still meet no refusal, since the check sees no modes and a macroblock waits only for the neighbours that its record reads. Where each
+   record reads from every available neighbour the replay meets one, and where the list names a macroblock twice it always does.
+
+   The verdict is about a whole picture from its start. Whatever the slices, raster order passes, and so do the macroblocks of one turn after the other, those
+   of a turn in any order, and the diagonals x + y one after the other, each from its top right end down to the left. From the bottom left up they do not, in
+   one slice of two columns and two rows or more: their second entry is (0, 1), and its neighbour C, (1, 0), is the third. */
+uint32_t jiwarbend_check_order(uint32_t w, uint32_t h, const uint16_t *slices, size_t slices_len, const uint32_t *order, size_t order_len,
+    uint32_t *verdict);
+
+/* Tells where an order goes wrong: place becomes the index in the list, from 0, of the first entry that is out of place, and w * h where none is, which is
+   where jiwarbend_check_order says yes. An entry is in place if its macroblock is not named by an entry before it and each of its available neighbours
+   is. Answers as jiwarbend_check_order does. */
+uint32_t jiwarbend_out_of_place(uint32_t w, uint32_t h, const uint16_t *slices, size_t slices_len, const uint32_t *order, size_t order_len,
+    uint32_t *place);
 
 /* ---- prediction of one block (clause 8.3)
 

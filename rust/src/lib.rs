@@ -60,6 +60,13 @@
 //! How many turns that will be [`Picture::turns`] says beforehand, and [`turns`] before there is a picture, from its size and its slices: never more than
 //! `w + 2 * (h - 1)`. `examples/wave.rs` draws how many macroblocks each turn has, which is how many cores can work at once.
 //!
+//! # An order from elsewhere
+//!
+//! Where a partner's scheduler decides in which order the macroblocks come, [`Picture::check_order`] says before the start whether its list can be relied on,
+//! and [`check_order`] before there is a picture. A list that passes names every macroblock once and each after all its available neighbours: replayed from a
+//! start, with acceptable records, it meets no refusal and finishes the picture. Of one that does not pass it is told which entry is the first out of place.
+//! `examples/partner.rs` checks and replays such lists.
+//!
 //! # Threads
 //!
 //! One call at a time for a picture; different pictures side by side. The library keeps no state of its own, takes no lock and makes no
@@ -91,5 +98,5 @@ pub mod sys;
 pub mod turned;
 
 pub use modes::{ChromaMode, Kind, Luma16x16Mode, LumaMode};
-pub use picture::{turns, Lent, LentPlane, Picture, Plane, Progress, Record};
+pub use picture::{check_order, turns, Lent, LentPlane, Picture, Plane, Progress, Record, Verdict};
 pub use refusal::Refusal;

@@ -305,6 +305,75 @@ pub fn turns(w: u32, h: u32, slices: &[u16]) -> Result<u32, Refusal> {
     Ok(turns)
 }
 
+/// What a check says of an order.
+#[derive(Clone, Copy, Debug, PartialEq, Eq)]
+#[must_use = "an order that does not pass is told by its verdict and not by a refusal"]
+pub enum Verdict {
+    /// The list names every macroblock once and each after all its available neighbours.
+    Yes,
+    /// An entry is out of place: its macroblock is named before it already, or one of its available neighbours is not.
+    No {
+        /// Where the first such entry stands in the list, from 0.
+        place: usize,
+        /// The address that stands there.
+        address: u32,
+    },
+}
+
+impl Verdict {
+    /// Whether the list passes.
+    pub const fn is_yes(self) -> bool {
+        matches!(self, Verdict::Yes)
+    }
+}
+
+/// Checks an order in which a picture of `w` by `h` macroblocks with these slice numbers is to be rebuilt: a list of addresses, y * w + x. It passes if it
+/// names every macroblock once and each after all its available neighbours: to the left, above, above and to the right, above and to the left. Else the first
+/// entry that is out of place is told. Size, slices and list tell it, and so it can be asked before there is a picture.
+///
+/// * [`Verdict::Yes`]: replayed from a start through [`Picture::rebuild`], each macroblock with an acceptable record, the list meets no refusal and finishes
+///   the picture.
+/// * [`Verdict::No`]: a replay may still meet no refusal, since the check sees no modes and a macroblock waits only for the neighbours that its record reads.
+///   Where each record reads from every available neighbour the replay meets one, and where the list names a macroblock twice it always does.
+///
+/// The verdict is about a whole picture from its start.
+///
+/// A scheduler that takes one diagonal after the other:
+///
+/// ```
+/// use jiwarbend::{check_order, Refusal, Verdict};
+///
+/// let (w, h, slices) = (3, 2, [0; 6]);
+/// // The macroblocks with x + y = d, from the top right end of the diagonal down to the left.
+/// let diagonal = |d: u32| (0..h).filter(move |&y| y <= d && d - y < w).map(move |y| y * w + d - y);
+/// let order: Vec<u32> = (0..w + h - 1).flat_map(diagonal).collect();
+/// assert_eq!(order, [0, 1, 3, 2, 4, 5]);
+/// assert!(check_order(w, h, &slices, &order)?.is_yes());
+///
+/// // From the bottom left up, macroblock (0, 1) comes before (1, 0), which is above and to the right of it.
+/// let order: Vec<u32> = (0..w + h - 1).flat_map(|d| diagonal(d).rev()).collect();
+/// assert_eq!(order, [0, 3, 1, 4, 2, 5]);
+/// assert_eq!(check_order(w, h, &slices, &order)?, Verdict::No { place: 1, address: 3 });
+/// # Ok::<(), Refusal>(())
+/// ```
+///
+/// # Errors
+///
+/// [`Refusal::Size`], [`Refusal::Room`] unless there are `w * h` slice numbers, or [`Refusal::Order`] unless the list has `w * h` addresses that are all below
+/// `w * h`.
+pub fn check_order(w: u32, h: u32, slices: &[u16], order: &[u32]) -> Result<Verdict, Refusal> {
+    let (mut verdict, mut place) = (0, 0);
+    // SAFETY: pointers and lengths are slices', and what is written is apart from them.
+    Refusal::check(unsafe { sys::jiwarbend_check_order(w, h, slices.as_ptr(), slices.len(), order.as_ptr(), order.len(), &mut verdict) })?;
+    if verdict == 1 {
+        return Ok(Verdict::Yes);
+    }
+    // SAFETY: as above.
+    Refusal::check(unsafe { sys::jiwarbend_out_of_place(w, h, slices.as_ptr(), slices.len(), order.as_ptr(), order.len(), &mut place) })?;
+    let place = place as usize;
+    Ok(Verdict::No { place, address: order[place] })
+}
+
 /// A picture that owns its planes and maps. It is started when it is made, and only its calls change it.
 ///
 /// A call that changes the picture takes it by `&mut`, so that two threads cannot be in one picture at a time. Different pictures may be rebuilt side
@@ -474,6 +543,16 @@ impl Picture {
     /// done by now has no say in it: [`turns`] answers the same from the picture's size and slices.
     pub fn turns(&self) -> u32 {
         turns(self.w, self.h, &self.slices).expect("a picture has the memory of its size")
+    }
+
+    /// Checks an order in which the whole picture is to be rebuilt, from nothing done until all is done: a list of addresses, y * w + x. What is done by now
+    /// has no say in it: [`check_order`] answers the same from the picture's size and slices, and tells what the verdict means.
+    ///
+    /// # Errors
+    ///
+    /// [`Refusal::Order`] unless the list has an address for each macroblock, and none outside the picture.
+    pub fn check_order(&self, order: &[u32]) -> Result<Verdict, Refusal> {
+        check_order(self.w, self.h, &self.slices, order)
     }
 
     /// Whether every macroblock is done.

@@ -28,6 +28,8 @@ pub enum Refusal {
     Range = 8,
     /// The row counts or the turn list have another length than the picture has rows, or a row count disagrees with the done map: count anew.
     Rows = 9,
+    /// The list of an order is not as long as the picture has macroblocks, or names an address outside the picture.
+    Order = 13,
 }
 
 impl Refusal {
@@ -42,6 +44,7 @@ impl Refusal {
         Refusal::NotPermitted,
         Refusal::Range,
         Refusal::Rows,
+        Refusal::Order,
     ];
 
     /// The number of the refusal, as C callers get it.
@@ -75,6 +78,7 @@ impl fmt::Display for Refusal {
             Refusal::NotPermitted => "a mode is not permitted where it stands",
             Refusal::Range => "a number or a block's transform is out of range",
             Refusal::Rows => "a row count disagrees with the done map, or the counts or the list have a wrong length",
+            Refusal::Order => "the list of an order has a wrong length or names an address outside the picture",
         })
     }
 }

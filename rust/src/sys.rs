@@ -58,6 +58,24 @@ extern "C" {
         how_many: *mut u32,
     ) -> u32;
     pub fn jiwarbend_turns(w: u32, h: u32, slices: *const u16, slices_len: usize, turns: *mut u32) -> u32;
+    pub fn jiwarbend_check_order(
+        w: u32,
+        h: u32,
+        slices: *const u16,
+        slices_len: usize,
+        order: *const u32,
+        order_len: usize,
+        verdict: *mut u32,
+    ) -> u32;
+    pub fn jiwarbend_out_of_place(
+        w: u32,
+        h: u32,
+        slices: *const u16,
+        slices_len: usize,
+        order: *const u32,
+        order_len: usize,
+        place: *mut u32,
+    ) -> u32;
 
     pub fn jiwarbend_clip_u8(v: i32) -> u8;
     pub fn jiwarbend_chroma_qp(qp: u8) -> u8;

@@ -11,7 +11,7 @@ use Rattle.laws.proofs.Tests.{T-true}
 use Rattle.order.specs.Order.{Laws, Done}
 use Rattle.order.specs.Driver.{View, Started, Fair, Spares, Offers, after, Carries}
 use Rattle.maps.specs.Progress.{begun}
-use Rattle.maps.specs.Neighbours.{Side, besideX, besideY, beside}
+use Rattle.maps.specs.Neighbours.{Side, besideX, besideY, beside, Adjoins}
 use Rattle.maps.specs.Size.{Size, Stands}
 use Rattle.maps.proofs.Beside.{Neighbour, available-at}
 use Rattle.maps.proofs.Sizes.{start-is, address-inside, place-of}
@@ -68,6 +68,10 @@ module _ (g : Picture) where
   -- macroblock a stands at address a
   pub offer-here : (a : ℕ) → here (offer g a) ≡ a
   offer-here a = div-add-mod' a (g .width)
+
+  -- what it waits for is an available neighbour
+  pub awaits-adjoins : (a b : ℕ) → Awaits g a b → Adjoins (g .width) (g .slices) a b
+  awaits-adjoins a b (k, t, is) = (k, waits-available (offer g a) k t, is)
 
   pub carries : (cs : List Call) (s : Lent) → Own g cs s → Carries driver view (totalOf g) here Waits step Depends cs s
   carries [] s o = tt

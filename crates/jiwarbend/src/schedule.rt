@@ -1,10 +1,14 @@
-// The turn list: which macroblocks may start now, and how many turns a picture takes. The calls read the maps, and write nothing of the picture.
+// Scheduling: which macroblocks may start now, how many turns a picture takes, and whether another scheduler's order is one. The calls read the maps, and
+// write nothing of the picture.
 ghost use mathlib.Core.Path.{_≡_};
 ghost use mathlib.Core.List.{List};
 ghost use Prim.Native.Nat.{ℕ};
 ghost use lib.ListN.{length};
 ghost use Rattle.laws.specs.Answer.{written};
 ghost use Rattle.calls.specs.Run.{Picture};
+ghost use Rattle.order_check.specs.Check.{outOfPlace, verdictOf, orderAnswer};
+ghost use Rattle.order_check.specs.Told.{Told};
+ghost use Rattle.replays.specs.Replay.{Replay};
 ghost use Rattle.turn_count.specs.Count.{turnCount, turnCountAnswer};
 ghost use Rattle.turn_count.specs.HowMany.{HowMany};
 ghost use Rattle.turn_list.specs.Agreed.{Agreed};
@@ -50,4 +54,38 @@ pub extern "C" fn jiwarbend_turns(w: u32, h: u32, slices: &[u16], turns: &mut u3
     ensures { λ _. ⌜ ((g : Picture) → TurnByTurn g) ⌝ }
 {
     turn_count::count::count_turns(w, h, slices, turns)
+}
+
+// Whether a list names every macroblock once, each after all its available neighbours: such a list, replayed with acceptable records, meets no refusal and
+// finishes the picture.
+#[no_mangle]
+pub extern "C" fn jiwarbend_check_order(
+    w: u32,
+    h: u32,
+    slices: &[u16],
+    order: &[u32],
+    verdict: &mut u32,
+) -> u32
+    ensures { λ r. ⌜ r ≡ orderAnswer w h (length (now (slices .entry))) (now (order .entry)) ⌝ }
+    ensures { λ r. ⌜ now (verdict .exit) ≡ written r (now (verdict .entry)) (verdictOf w (now (slices .entry)) (now (order .entry))) ⌝ }
+    ensures { λ r. ⌜ (r ≡ 0 → Told w h (now (slices .entry))) ⌝ }
+    ensures { λ _. ⌜ ((g : Picture) → Replay g) ⌝ }
+{
+    order_check::check::check_order(w, h, slices, order, verdict)
+}
+
+// Where in such a list the first entry is out of place: before it all are in place.
+#[no_mangle]
+pub extern "C" fn jiwarbend_out_of_place(
+    w: u32,
+    h: u32,
+    slices: &[u16],
+    order: &[u32],
+    place: &mut u32,
+) -> u32
+    ensures { λ r. ⌜ r ≡ orderAnswer w h (length (now (slices .entry))) (now (order .entry)) ⌝ }
+    ensures { λ r. ⌜ now (place .exit) ≡ written r (now (place .entry)) (outOfPlace w (now (slices .entry)) (now (order .entry))) ⌝ }
+    ensures { λ r. ⌜ (r ≡ 0 → Told w h (now (slices .entry))) ⌝ }
+{
+    order_check::check::out_of_place(w, h, slices, order, place)
 }

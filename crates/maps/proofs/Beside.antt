@@ -2,14 +2,15 @@
 use mathlib.Core.Path.{_≡_, ap}
 use mathlib.Core.Bool.{true, _&&_}
 use mathlib.Core.List.{List}
-use Prim.Native.Nat.{ℕ, _+_, _-_, _<_, _≤_}
+use Prim.Native.Nat.{ℕ, _+_, _-_, _/_, _%_, _<_, _≤_}
+use native.Mathlib.Nat.{div-add-mod', mod-lt}
 use native.Mathlib.Omega.{arith}
 use lib.Dec.{ltb, eqb}
 use lib.ListN.{getD, length}
 use borrow.Author.Tests.{eqb-true, eq-eqb, ltb-true}
 use Rattle.laws.proofs.Digits.{pred-mul}
 use Rattle.laws.proofs.Tests.{and-left, and-both, and-of, and-same}
-use Rattle.maps.specs.Neighbours.{Side, besideX, besideY, beside, inPicture, available, mapped, marksAt}
+use Rattle.maps.specs.Neighbours.{Side, besideX, besideY, beside, inPicture, available, Adjoins, mapped, marksAt}
 use Rattle.maps.specs.Neighbours.Side.{A, B, C, D}
 use Rattle.maps.specs.Size.{total, address, sizeOk, Size, placeOk, Stands}
 use Rattle.maps.proofs.Sizes.{size-is, size-yes, place-is, place-yes}
@@ -57,6 +58,11 @@ module _ (w x y : ℕ) (slices : List ℕ) (k : Side) where
   -- the test by how far it is back
   pub available-is : x < w → inPicture w x y k && eqb (getD slices (address w x y - backOf w k) 0) (getD slices (address w x y) 0) ≡ available w slices x y k
   available-is h = and-same (inPicture w x y k) (λ t. ap (λ a. eqb (getD slices a 0) (getD slices (address w x y) 0)) (beside-at w x y h k t .is))
+
+-- available neighbours have smaller addresses
+pub adjoins-before : (w : ℕ) (slices : List ℕ) (a b : ℕ) → 0 < w → Adjoins w slices a b → b < a
+adjoins-before w slices a b h (k, t, is) =
+    omega (arith, available-at w (a % w) (a / w) slices k (mod-lt a h) t .before, div-add-mod' a w, is)
 
 -- ---- the marks, where rules 1 to 3 hold
 module _ (w h n x y : ℕ) where

@@ -24,32 +24,37 @@ module _ (done : List ℕ) (a : ℕ) where
   pub undone-yes : ¬ Done done a → isDone done a ≡ false
   undone-yes n = ne-eqb (getD done a 0) 1 n
 
+-- a test of all four sides
+module _ (f : Side → Bool) where
+  pub sides-is : f A && f B && f C && f D ≡ true → (k : Side) → f k ≡ true
+  sides-is e k = each k
+    where
+      e₃ : (f A && f B && f C ≡ true) × (f D ≡ true)
+      e₃ = and-both (f A && f B && f C) (f D) e
+
+      e₂ : (f A && f B ≡ true) × (f C ≡ true)
+      e₂ = and-both (f A && f B) (f C) (e₃ .0)
+
+      each : (k : Side) → f k ≡ true
+      each A = and-both (f A) (f B) (e₂ .0) .0
+      each B = and-both (f A) (f B) (e₂ .0) .1
+      each C = e₂ .1
+      each D = e₃ .1
+
+  pub sides-yes : ((k : Side) → f k ≡ true) → f A && f B && f C && f D ≡ true
+  sides-yes each = rw (each A, each B, each C, each D)
+
 module _ (w x y : ℕ) (waited : Side → Bool) (done : List ℕ) where
   abbrev one : Side → Bool
   one k = settled w x y waited done k
 
   pub settled-is : allSettled w x y waited done ≡ true → (k : Side) → waited k ≡ true → Done done (beside w x y k)
   unfolding allSettled
-  settled-is e k t = done-is done (beside w x y k) (implied (waited k) (isDone done (beside w x y k)) (each k) t)
-    where
-      e₃ : (one A && one B && one C ≡ true) × (one D ≡ true)
-      e₃ = and-both (one A && one B && one C) (one D) e
-
-      e₂ : (one A && one B ≡ true) × (one C ≡ true)
-      e₂ = and-both (one A && one B) (one C) (e₃ .0)
-
-      each : (k : Side) → one k ≡ true
-      each A = and-both (one A) (one B) (e₂ .0) .0
-      each B = and-both (one A) (one B) (e₂ .0) .1
-      each C = e₂ .1
-      each D = e₃ .1
+  settled-is e k t = done-is done (beside w x y k) (implied (waited k) (isDone done (beside w x y k)) (sides-is one e k) t)
 
   pub settled-yes : ((k : Side) → waited k ≡ true → Done done (beside w x y k)) → allSettled w x y waited done ≡ true
   unfolding allSettled
-  settled-yes f = rw (show A, show B, show C, show D)
-    where
-      show : (k : Side) → one k ≡ true
-      show k = implied-of (waited k) (isDone done (beside w x y k)) (λ t. done-yes done (beside w x y k) (f k t))
+  settled-yes f = sides-yes one (λ k. implied-of (waited k) (isDone done (beside w x y k)) (λ t. done-yes done (beside w x y k) (f k t)))
 
   -- where it is broken, one that is waited for is undone
   pub settled-no : allSettled w x y waited done ≡ false → (k : Side) × (waited k ≡ true) × ¬ Done done (beside w x y k)

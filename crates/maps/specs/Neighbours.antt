@@ -1,10 +1,11 @@
 -- Who is a neighbour of a macroblock, and where it stands. None of this looks at the done map.
-use mathlib.Core.Bool.{Bool, _&&_}
+use mathlib.Core.Path.{_≡_}
+use mathlib.Core.Bool.{Bool, true, _&&_}
 use mathlib.Core.List.{List}
-use Prim.Native.Nat.{ℕ, _+_, _-_}
+use Prim.Native.Nat.{ℕ, _+_, _-_, _/_, _%_}
 use lib.Dec.{eqb, ltb}
 use lib.ListN.{getD, length}
-use Rattle.maps.specs.Size.{total, address, sizeOk, placeOk}
+use Rattle.maps.specs.Size.{total, address, sizeOk, Size, placeOk}
 use Rattle.maps.specs.declared.neighbours.Marks.{Marks}
 
 -- 6.4.9: the neighbour macroblocks A, left, B, above, C, above and to the right, and D, above and to the left
@@ -45,6 +46,15 @@ inPicture w x y D = ltb 0 y && ltb 0 x
 -- available: in the picture, and with the same slice number
 abbrev pub available : (w : ℕ) → List ℕ → (x y : ℕ) → Side → Bool
 available w slices x y k = inPicture w x y k && eqb (getD slices (beside w x y k) 0) (getD slices (address w x y) 0)
+
+-- macroblock b is an available neighbour of macroblock a
+abbrev pub Adjoins : (w : ℕ) → List ℕ → (a b : ℕ) → Type 0
+Adjoins w slices a b = (k : Side) × (available w slices (a % w) (a / w) k ≡ true) × (beside w (a % w) (a / w) k ≡ b)
+
+-- a picture of good size has an entry of the slice map for each macroblock
+pub record SliceMap (w h : ℕ) (slices : List ℕ) : Type 0 where
+  pub size : Size w h
+  pub long : length slices ≡ total w h
 
 -- rules 1 to 3 of a picture, a slice map of so many entries, and a place
 unfoldable pub mapped : (w h entries x y : ℕ) → Bool

@@ -96,6 +96,36 @@ module _ {S C M : Type 0} {D : Driver S C} {U : View S M} {n : ℕ} {addr : C �
   taken-all offer is (a ∷ o) s e =
       taken-first (offer a) (map offer o) s (head-eq-of-cons-eq e) ∙ ap₂ (λ b l. b ∷ l) (is a) (taken-all offer is o (after D (offer a) s) (tail-eq-of-cons-eq e))
 
+  -- their order is permitted, whatever they leave of the memory
+  pub taken-permitted : (offer : ℕ → C) → ((a : ℕ) → addr (offer a) ≡ a) → (o : List ℕ) (s : S) → length (U .done s) ≡ n
+      → answers D (map offer o) s ≡ replicate (length o) 0
+      → Permitted n (λ a b. waits (offer a) b) o (U .done s) × (U .done (play D (map offer o) s) ≡ marked o (U .done s))
+  taken-permitted offer is [] s l e = (tt, refl)
+  taken-permitted offer is (a ∷ o) s l e =
+      let z = head-eq-of-cons-eq e in
+      let t = F .takes (offer a) s z l in
+      let m = done-after (offer a) s z ∙ ap (λ b. set (U .done s) b 1) (is a) in
+      let more = taken-permitted offer is o (after D (offer a) s) (long-after (offer a) s l) (tail-eq-of-cons-eq e) in
+      ((subst (λ b. b < n) (is a) (t .0), subst (λ b. ¬ Done (U .done s) b) (is a) (t .1), t .2, subst (Permitted n (λ a b. waits (offer a) b) o) m (more .0)), more .1 ∙ ap (marked o) m)
+
+  -- a run that takes as many as it has calls meets no refusal
+  taken-short : (cs : List C) (s : S) → length (takenBy D addr cs s) ≤ length cs
+  taken-short [] s = omega arith
+  taken-short (c ∷ cs) s = go (D .answer c s) refl (taken-short cs (after D c s))
+    where
+      go : (r : ℕ) → D .answer c s ≡ r → length (takenBy D addr cs (after D c s)) ≤ length cs → length (takenBy D addr (c ∷ cs) s) ≤ suc (length cs)
+      go zero e h = omega (arith, ap length (taken-first c cs s e))
+      go (suc r) e h = omega (arith, ap length (taken-first c cs s e))
+
+  pub none-refused : (cs : List C) (s : S) → length cs ≤ length (takenBy D addr cs s) → answers D cs s ≡ replicate (length cs) 0
+  none-refused [] s h = refl
+  none-refused (c ∷ cs) s h = go (D .answer c s) refl (none-refused cs (after D c s))
+    where
+      go : (r : ℕ) → D .answer c s ≡ r → (length cs ≤ length (takenBy D addr cs (after D c s)) → answers D cs (after D c s) ≡ replicate (length cs) 0)
+          → D .answer c s ∷ answers D cs (after D c s) ≡ replicate (suc (length cs)) 0
+      go zero e ih = ap₂ (λ x xs. x ∷ xs) e (ih (omega (arith, ap length (taken-first c cs s e))))
+      go (suc r) e ih = absurd (omega (arith, ap length (taken-first c cs s e), taken-short cs (after D c s)))
+
   -- it counts them, up to n
   pub taken-count : (cs : List C) (s : S) → length (U .done s) ≡ n → U .count s ≤ n → U .count (play D cs s) ≡ min (U .count s + length (takenBy D addr cs s)) n
   taken-count [] s l few = omega arith
@@ -145,6 +175,9 @@ module _ {S C M : Type 0} {D : Driver S C} {U : View S M} {n : ℕ} {addr : C �
 
   counted-start : {s : S} → Started D U n addr s → Counted s
   counted-start st = record { long = long-start st; right = st .none ∙ sym (ones-none n) ∙ ap ones (sym (st .empty)) }
+
+  pub counted-long : (cs : List C) {s : S} → Started D U n addr s → length (U .done (play D cs s)) ≡ n
+  counted-long cs {s} st = counted-run cs s (counted-start st) .long
 
   pub counted : (cs : List C) {s : S} → Started D U n addr s → U .count (play D cs s) ≡ ones (U .done (play D cs s))
   counted cs {s} st = counted-run cs s (counted-start st) .right

@@ -2,6 +2,7 @@
 pub mod AnyOrder
 pub mod Count
 pub mod Driver
+pub mod FullOrder
 pub mod Lists
 pub mod Orders
 pub mod Parts

@@ -1,12 +1,23 @@
--- Lists of steps, joined and in another order. Assumes nothing.
+-- Lists of steps, by their places, joined and in another order. Assumes nothing.
 use mathlib.Core.Path.{_≡_, refl, sym, ap, _∙_}
 use mathlib.Core.Logic.{_⊎_, inl, inr}
 use mathlib.Core.List.{List, [], _∷_, _++_}
-use Prim.Native.Nat.{ℕ, suc, _<_}
-use native.Mathlib.Nat.{lt-irrefl}
-use lib.ListN.{length}
+use Prim.Native.Nat.{ℕ, zero, suc, _<_}
+use native.Mathlib.Nat.{lt-irrefl, not-suc-le-zero, le-of-suc-le-suc}
+use native.Mathlib.Omega.{arith}
+use lib.ListN.{getD, length}
 use Rattle.order.specs.Lists.{Names, Distinct, Rises, Permutes}
 use Rattle.order.specs.Lists.Permutes.{none, keep, swap, join}
+
+-- ---- by places
+pub place-names : (o : List ℕ) (i : ℕ) → i < length o → Names o (getD o i 0)
+place-names [] i h = absurd (not-suc-le-zero h)
+place-names (a ∷ o) zero h = inl refl
+place-names (a ∷ o) (suc i) h = inr (place-names o i (le-of-suc-le-suc h))
+
+pub names-place : (o : List ℕ) (a : ℕ) → Names o a → (i : ℕ) × (i < length o) × (getD o i 0 ≡ a)
+names-place (b ∷ o) a (inl e) = (0, omega arith, sym e)
+names-place (b ∷ o) a (inr n) = let p = names-place o a n in (suc (p .0), omega (arith, p .1), p .2)
 
 -- ---- joined
 pub names-left : (l m : List ℕ) (a : ℕ) → Names l a → Names (l ++ m) a

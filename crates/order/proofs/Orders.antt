@@ -13,6 +13,11 @@ pub permitted-append : (n : ℕ) (N : ℕ → ℕ → Type 0) (o u d : List ℕ)
 permitted-append n N [] u d t v = v
 permitted-append n N (a ∷ o) u d t v = (t .0, t .1, t .2, permitted-append n N o u (set d a 1) (t .3) v)
 
+-- what is permitted with more to wait for is permitted with less
+pub permitted-fewer : (n : ℕ) (N P : ℕ → ℕ → Type 0) → ((a b : ℕ) → P a b → N a b) → (o d : List ℕ) → Permitted n N o d → Permitted n P o d
+permitted-fewer n N P less [] d t = tt
+permitted-fewer n N P less (a ∷ o) d t = (t .0, t .1, (λ b w. t .2 b (less a b w)), permitted-fewer n N P less o (set d a 1) (t .3))
+
 pub marked-append : (o u d : List ℕ) → marked (o ++ u) d ≡ marked u (marked o d)
 marked-append [] u d = refl
 marked-append (a ∷ o) u d = marked-append o u (set d a 1)

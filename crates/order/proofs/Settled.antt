@@ -4,9 +4,9 @@ use mathlib.Core.Logic.{_≢_}
 use mathlib.Core.List.{List, [], _∷_}
 use Prim.Native.Nat.{ℕ, zero, suc, _<_}
 use native.Mathlib.Nat.{lt-irrefl, lt-of-lt-of-le, lt-trans, le-refl, not-suc-le-zero, le-of-suc-le-suc}
-use native.Mathlib.Decide.{ℕ-discrete}
+use native.Mathlib.Decide.{ℕ-discrete, decLt}
 use native.Mathlib.Omega.{arith}
-use lib.ListN.{set, length, length-set, replicate, getD-replicate}
+use lib.ListN.{getD, set, length, length-set, replicate, length-replicate, getD-replicate, List·getD-eq-default}
 use lib.Seq.{getD-set-same, getD-set-other}
 use Rattle.order.specs.Order.{Alike, Laws, Done, Ready, build, marked, Permitted}
 
@@ -23,6 +23,14 @@ done-still d a b h e = go (ℕ-discrete b a)
 
 pub done-before : (d : List ℕ) (a b : ℕ) → b ≢ a → Done (set d a 1) b → Done d b
 done-before d a b q e = sym (getD-set-other d a b 1 0 q) ∙ e
+
+-- in an empty map nothing is
+pub none-done : (n b : ℕ) → ¬ Done (replicate n 0) b
+none-done n b e = let z : _≡_ {A = ℕ} 0 1 = sym (zero-at (decLt b n)) ∙ e in omega arith
+  where
+    zero-at : Dec (b < n) → getD {A = ℕ} (replicate n 0) b 0 ≡ 0
+    zero-at (yes h) = getD-replicate n b 0 0 h
+    zero-at (no h) = List·getD-eq-default (replicate n 0) 0 (omega (arith, length-replicate {A = ℕ} n 0))
 
 module _ {M I X : Type 0} {at : M → I → X} {ok : M → Type 0} {n : ℕ} {R : ℕ → I → Type 0} {N : ℕ → ℕ → Type 0} {step : ℕ → M → M}
     (L : Laws at ok n R N step) where
@@ -68,10 +76,7 @@ module _ {M I X : Type 0} {at : M → I → X} {ok : M → Type 0} {n : ℕ} {R 
 
   -- a memory over which nothing is done is settled
   pub settled-start : (p : M) → Settled p (replicate n 0)
-  settled-start p = record { closed = λ a h e. absurd (none a h e); fixed = λ a h e. absurd (none a h e) }
-    where
-      none : (a : ℕ) → a < n → ¬ Done (replicate n 0) a
-      none a h e = let z : _≡_ {A = ℕ} 0 1 = sym (getD-replicate n a 0 0 h) ∙ e in omega arith
+  settled-start p = record { closed = λ a h e. absurd (none-done n a e); fixed = λ a h e. absurd (none-done n a e) }
 
   pub ok-run : (o : List ℕ) (p : M) (d : List ℕ) → ok p → Permitted n N o d → ok (build step o p)
   ok-run [] p d k t = k

@@ -1,13 +1,18 @@
 -- Lists of steps: what they name, and the same list in another order.
 use mathlib.Core.Path.{_≡_}
 use mathlib.Core.Logic.{_⊎_}
-use mathlib.Core.List.{List, [], _∷_}
+use mathlib.Core.List.{List, [], _∷_, _++_}
 use Prim.Native.Nat.{ℕ, _<_}
 
 -- the list names a
 abbrev pub Names : List ℕ → ℕ → Type 0
 Names [] a = ⊥
 Names (b ∷ l) a = (a ≡ b) ⊎ Names l a
+
+-- lists one after the other
+abbrev pub joined : {A : Type 0} → List (List A) → List A
+joined [] = []
+joined (l ∷ ls) = l ++ joined ls
 
 -- no step is named twice
 abbrev pub Distinct : List ℕ → Type 0

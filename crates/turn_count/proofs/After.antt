@@ -7,12 +7,13 @@ use Prim.Native.Nat.{ℕ, zero, suc, _+_, _*_, _-_, _/_, _%_, _<_, _≤_}
 use native.Mathlib.Decide.{ℕ-discrete, decLt}
 use native.Mathlib.Nat.{le-refl, div-add-mod'}
 use native.Mathlib.Omega.{arith}
-use lib.ListN.{getD, length, length-replicate, getD-replicate}
+use lib.ListN.{getD, length, length-replicate}
 use Rattle.laws.specs.Table.{allBelow}
 use Rattle.laws.proofs.Tests.{no-from, all-at, all-of}
 use Rattle.order.specs.Lists.{Names}
 use Rattle.order.specs.Order.{Done, AllDone}
 use Rattle.order.proofs.Orders.{length-marked, marked-still, marked-named, marked-only}
+use Rattle.order.proofs.Settled.{none-done}
 use Rattle.order.proofs.Undone.{some-first}
 use Rattle.maps.specs.Done.{isDone}
 use Rattle.maps.specs.Neighbours.{besideX, besideY}
@@ -21,8 +22,9 @@ use Rattle.maps.proofs.Beside.{available-at}
 use Rattle.maps.proofs.Sizes.{address-inside, place-of}
 use Rattle.maps.proofs.Waiting.{done-is, done-yes}
 use Rattle.turn_list.specs.Turn.{turn}
+use Rattle.turn_list.proofs.Begun.{turn-begins}
 use Rattle.turn_list.proofs.Leading.{leading-is, leads-same}
-use Rattle.turn_list.proofs.Startable.{turn-named, turn-names, turn-starts, turn-first}
+use Rattle.turn_list.proofs.Startable.{turn-names, turn-starts, turn-first}
 use Rattle.turn_count.specs.Count.{doneAfter, unfinished, turnCount}
 use Rattle.turn_count.specs.Due.{due, latest}
 use Rattle.turn_count.proofs.Due.{waits-due, due-waits, due-some, due-row, due-address, due-column, due-wave}
@@ -35,21 +37,18 @@ module _ (w h : ℕ) (slices : List ℕ) where
   abbrev listed : ℕ → List ℕ
   listed t = turn w h slices (after t)
 
-  long : (t : ℕ) → length (after t) ≡ total w h
+  pub after-long : (t : ℕ) → length (after t) ≡ total w h
   unfolding doneAfter
-  long zero = length-replicate (total w h) 0
-  long (suc t) = length-marked (listed t) (after t) ∙ long t
+  after-long zero = length-replicate (total w h) 0
+  after-long (suc t) = length-marked (listed t) (after t) ∙ after-long t
 
   inside : (t b : ℕ) → Names (listed t) b → b < length (after t)
-  inside t b n =
-      let p = turn-named w slices (after t) h b n in
-      let l = address-inside w h (p .at .x) (p .y) (record { in-w = p .at .in-w; in-h = p .in-h }) in
-      omega (arith, p .at .is, long t)
+  inside t b n = omega (arith, turn-begins w h slices (after t) b n .inside, after-long t)
 
   -- ---- one more turn
-  none-done : (x y : ℕ) → Stands w h x y → ¬ Done (after 0) (address w x y)
+  none-yet : (a : ℕ) → ¬ Done (after 0) a
   unfolding doneAfter
-  none-done x y p e = let z : _≡_ {A = ℕ} 0 1 = sym (getD-replicate (total w h) (address w x y) 0 0 (address-inside w h x y p)) ∙ e in omega arith
+  none-yet a = none-done (total w h) a
 
   more-only : (t a : ℕ) → Done (after (suc t)) a → Done (after t) a ⊎ Names (listed t) a
   unfolding doneAfter
@@ -104,7 +103,7 @@ module _ (w h : ℕ) (slices : List ℕ) where
         go (no u) = more-named t (address w x y) (by-listed l u)
 
   pub done-due : (t : ℕ) → DoneBy t
-  done-due zero x y p = ((λ e. absurd (none-done x y p e)), (λ l. absurd (omega (arith, due-some w slices x y))))
+  done-due zero x y p = ((λ e. absurd (none-yet (address w x y) e)), (λ l. absurd (omega (arith, due-some w slices x y))))
   done-due (suc t) x y p = (by-more t (done-due t) x y p, more-by t (done-due t) x y p)
 
   pub listed-due : (t x y : ℕ) → Stands w h x y → Names (listed t) (address w x y) ↔ (due w slices x y ≡ suc t)

@@ -5,8 +5,9 @@ ghost use mathlib.Core.Bool.{true, cond};
 ghost use Prim.Native.Nat.{_+_, _-_, _≤_, _<_, max};
 ghost use lib.Dec.{eqb};
 ghost use lib.ListN.{length, getD};
+ghost use Rattle.maps.specs.Neighbours.{SliceMap};
 ghost use Rattle.maps.specs.Size.{Stands};
-ghost use Rattle.turn_count.specs.inner.Late.{SliceMap, late, lateAbove, LateRow, AboveRow, Under, Edges, RunOn};
+ghost use Rattle.turn_count.specs.inner.Late.{late, lateAbove, LateRow, AboveRow, Under, Edges, RunOn};
 use maps::neighbours::marks_of;
 
 // Brings the numbers from the row above to row y, and answers how late its last macroblock is. None of a row is more than two turns later than the last one

@@ -1,4 +1,3 @@
 -- The laws about turns are `one-turn` and `turn-by-turn`.
 pub mod OneTurn
 pub mod TurnByTurn
-mod Begun

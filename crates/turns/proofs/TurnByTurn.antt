@@ -7,6 +7,7 @@ use native.Mathlib.Nat.{add-zero}
 use native.Mathlib.Omega.{arith}
 use lib.ListN.{length, length-replicate}
 use Rattle.order.specs.Driver.{play}
+use Rattle.order.specs.Lists.{joined}
 use Rattle.order.specs.Order.{AllDone, marked}
 use Rattle.order.proofs.Driver.{play-append}
 use Rattle.order.proofs.Lists.{permutes-itself}
@@ -19,8 +20,7 @@ use Rattle.calls.proofs.OnePicture.{sized, begun-at, begins}
 use Rattle.turn_count.specs.Count.{doneAfter, turnCount}
 use Rattle.turn_count.proofs.HowMany.{how-many}
 use Rattle.turns.specs.OneTurn.{turnOf, WellLent, TakesTurn}
-use Rattle.turns.specs.TurnByTurn.{TakesTurns, joined, offered, TurnByTurn}
-use Rattle.turns.proofs.Begun.{turn-begins}
+use Rattle.turns.specs.TurnByTurn.{TakesTurns, offered, TurnByTurn}
 use Rattle.turns.proofs.OneTurn.{one-turn}
 
 module _ (g : Picture) where
@@ -47,7 +47,7 @@ module _ (g : Picture) where
   takes-offered ok zero s k = tt
   takes-offered ok (suc t) s k =
       let o = turnOf g (s .done) in
-      let takes = one-turn g .taken s k o (permutes-itself o) (λ a n. ok a (turn-begins g (s .done) a n .inside)) .1 in
+      let takes = one-turn g .taken s k o (permutes-itself o) (λ a n. ok a (one-turn g .inside (s .done) a n)) .1 in
       (takes, takes-offered ok t (play driver (map (offer g) o) s) (one-turn g .again s (map (offer g) o) takes))
 
   -- ---- from a start

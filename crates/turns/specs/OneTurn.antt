@@ -1,27 +1,22 @@
 -- What comes of a turn: there always is one, its macroblocks may be taken by anybody and in any order, and the same is left.
 use mathlib.Core.Path.{_≡_}
-use mathlib.Core.Bool.{true}
 use mathlib.Core.Logic.{_↔_}
 use mathlib.Core.List.{List, [], map}
-use Prim.Native.Nat.{ℕ, _+_, _/_, _%_, _<_, _≤_, min}
+use Prim.Native.Nat.{ℕ, _+_, _/_, _<_, _≤_, min}
 use lib.ListN.{length, replicate}
 use Rattle.order.specs.Driver.{play, answers, takenBy}
 use Rattle.order.specs.Lists.{Names, Rises, Permutes}
 use Rattle.order.specs.Order.{Alike, Done, AllDone, First, marked}
-use Rattle.maps.specs.Neighbours.{Side, beside}
+use Rattle.maps.specs.Neighbours.{Adjoins}
 use Rattle.maps.specs.Size.{address, Stands}
 use Rattle.calls.specs.Planes.{Plane}
-use Rattle.calls.specs.Rebuild.{Call, Lent, here, marks, Acceptable, answerTo, squareIn}
+use Rattle.calls.specs.Rebuild.{Call, Lent, here, Acceptable, answerTo, squareIn}
 use Rattle.calls.specs.Run.{Picture, totalOf, offer, Lends, Planes, Location, sampleAt, Region, driver, Own}
 use Rattle.turn_list.specs.Turn.{turn, Startable}
 
 -- a picture's turn, by its done map
 abbrev pub turnOf : Picture → List ℕ → List ℕ
 turnOf g done = turn (g .width) (g .height) (g .slices) done
-
--- macroblock b is an available neighbour of macroblock a
-abbrev pub Adjoins : Picture → ℕ → ℕ → Type 0
-Adjoins g a b = (k : Side) × (marks (offer g a) k ≡ true) × (beside (g .width) (a % g .width) (a / g .width) k ≡ b)
 
 -- what macroblock a, rebuilt from its own record, makes of the planes
 abbrev pub rebuiltAt : Picture → ℕ → Planes → Planes
@@ -65,7 +60,7 @@ pub record OneTurn (g : Picture) : Type 0 where
   pub stays : (s : Lent) → WellLent g s → (a : ℕ) → Names (turnOf g (s .done)) a → Acceptable (offer g a)
       → (cs : List Call) → ¬ Done (play driver cs s .done) a → answerTo (offer g a) (play driver cs s) ≡ 0
   -- ---- cores do not meet: neither of two macroblocks of a turn reads what the other writes
-  pub apart : (done : List ℕ) (a b : ℕ) → Names (turnOf g done) a → Names (turnOf g done) b → ¬ Adjoins g a b
+  pub apart : (done : List ℕ) (a b : ℕ) → Names (turnOf g done) a → Names (turnOf g done) b → ¬ Adjoins (g .width) (g .slices) a b
   pub unwritten : (s : Lent) → Lends g s → (a b : ℕ) → Names (turnOf g (s .done)) a → Names (turnOf g (s .done)) b → ¬ (a ≡ b)
       → Alike sampleAt (Region g b) (rebuiltAt g a (s .planes)) (s .planes)
   pub unread : (s : Lent) → Lends g s → (a b : ℕ) → Names (turnOf g (s .done)) a → Names (turnOf g (s .done)) b

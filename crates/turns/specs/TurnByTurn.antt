@@ -1,10 +1,11 @@
 -- A picture turn by turn: whoever takes the turns, and in whatever order, it is finished after as many as `turnCount` says, and not sooner.
 use mathlib.Core.Path.{_≡_}
 use mathlib.Core.Logic.{_↔_}
-use mathlib.Core.List.{List, [], _∷_, _++_, map}
+use mathlib.Core.List.{List, [], _∷_, map}
 use Prim.Native.Nat.{ℕ, zero, suc, _≤_}
 use lib.ListN.{length}
 use Rattle.order.specs.Driver.{play}
+use Rattle.order.specs.Lists.{joined}
 use Rattle.order.specs.Order.{AllDone}
 use Rattle.calls.specs.Planes.{Plane}
 use Rattle.calls.specs.Rebuild.{Call, Lent}
@@ -16,11 +17,6 @@ use Rattle.turns.specs.OneTurn.{turnOf, TakesTurn}
 abbrev pub TakesTurns : Picture → Lent → List (List Call) → Type 0
 TakesTurns g s [] = Unit {0}
 TakesTurns g s (cs ∷ runs) = TakesTurn g s cs × TakesTurns g (play driver cs s) runs
-
--- the runs one after the other
-abbrev pub joined : List (List Call) → List Call
-joined [] = []
-joined (cs ∷ runs) = cs ++ joined runs
 
 -- t turns, each offered as it is listed, with its macroblocks' own records
 abbrev pub offered : Picture → ℕ → Lent → List (List Call)

@@ -21,7 +21,9 @@ struct Account(Vec<usize>);
 
 impl Account {
     fn new() -> Account {
-        Account(vec![0; Refusal::ALL.len() + 1])
+        // The last refusal has the largest number, and below it some are unused.
+        let largest = Refusal::ALL.last().map_or(0, |r| r.number() as usize);
+        Account(vec![0; largest + 1])
     }
 
     fn add(&mut self, answer: Result<(), Refusal>) {

@@ -6,13 +6,7 @@ use Prim.Native.Nat.{ℕ, _+_, _*_, _-_, _≤_, _<_, max}
 use lib.ListN.{getD, length}
 use Rattle.maps.specs.Neighbours.{Side, besideX, besideY, available}
 use Rattle.maps.specs.Neighbours.Side.{A, B, C, D}
-use Rattle.maps.specs.Size.{Size, total}
 use Rattle.turn_count.specs.Due.{due, latest}
-
--- a slice map of good size
-pub record SliceMap (w h : ℕ) (slices : List ℕ) : Type 0 where
-  pub size : Size w h
-  pub long : length slices ≡ total w h
 
 abbrev pub late : (w : ℕ) (slices : List ℕ) (x y : ℕ) → ℕ
 late w slices x y = due w slices x y - (x + 1)

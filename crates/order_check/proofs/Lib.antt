@@ -1,0 +1,5 @@
+-- The law about checks is `told`.
+pub mod Told
+mod FirstOut
+mod Least
+mod Named

@@ -1,0 +1,2 @@
+-- The law about replays is `replays`.
+pub mod Replay

@@ -1,0 +1,2 @@
+-- What comes of replaying a list of addresses.
+pub mod Replay
