@@ -49,10 +49,11 @@ fn listed(w: u32, h: u32, entries: usize, order: &[u32]) -> u32
         return 1;
     }
     let total = h * w;
-    if entries != (total as usize) {
+    let many = total as usize;
+    if entries != many {
         return 2;
     }
-    if order.len() != (total as usize) {
+    if order.len() != many {
         return 13;
     }
     if !all_inside(order, total) {

@@ -5,9 +5,9 @@ use Prim.Native.Nat.{ℕ, _-_, _≤_}
 use native.Mathlib.Omega.{arith}
 use lib.Dec.{ltb}
 use lib.ListN.{getD, length}
+use borrow.Author.Needs.{needs}
 use Rattle.laws.specs.Table.{allBelow}
 use Rattle.laws.proofs.Tests.{all-none, all-next}
-use borrow.Author.Needs.{needs}
 use Rattle.order_check.proofs.check.all_inside.Statement.{statement}
 use Rattle.order_check.proofs.check.all_inside.Tie as tie
 
@@ -37,14 +37,5 @@ returns c =
 pub all-inside-spec : {M : Type 1} → statement M
 all-inside-spec =
     tie.close
-    (tie.spec
-    Inv-loop
-    μ-loop
-    loop-holds
-    (λ c. search needs)
-    (λ c. search needs)
-    (λ c κs. search needs)
-    (λ c. search needs)
-    (λ c. search needs)
-    loop-again
-    returns)
+    (tie.spec Inv-loop μ-loop loop-holds (λ c. search needs) (λ c. search needs) (λ c κs. search needs) (λ c. search needs) (λ c. search needs)
+    loop-again returns)

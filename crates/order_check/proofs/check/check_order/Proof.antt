@@ -1,8 +1,8 @@
 -- `order_check::check::check_order` meets its contract: the list's end is told exactly where all entries are in place. Assumes nothing.
 use mathlib.Core.Path.{sym, _∙_}
+use borrow.Author.Needs.{needs}
 use Rattle.laws.proofs.Answers.{put, refused}
 use Rattle.order_check.proofs.Told.{end-yes, end-no}
-use borrow.Author.Needs.{needs}
 use Rattle.order_check.proofs.check.check_order.Statement.{statement}
 use Rattle.order_check.proofs.check.check_order.Tie as tie
 
@@ -26,8 +26,4 @@ returns-3 c = let e = c .before .out-of-place in (e .ensures .0, sym (refused (e
 pub check-order-spec : {M : Type 1} → statement M
 check-order-spec =
     tie.close
-    (tie.spec
-    (λ c κs. search needs)
-    returns
-    returns-2
-    returns-3)
+    (tie.spec (λ c κs. search needs) returns returns-2 returns-3)

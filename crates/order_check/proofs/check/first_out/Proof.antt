@@ -1,9 +1,9 @@
 -- `order_check::check::first_out` meets its contract: an entry out of place names a macroblock again or comes too early. Assumes nothing.
 use mathlib.Core.Path.{refl, _∙_}
 use native.Mathlib.Omega.{arith}
+use borrow.Author.Needs.{needs}
 use Rattle.maps.proofs.Sizes.{total-most}
 use Rattle.order_check.proofs.FirstOut.{first-out}
-use borrow.Author.Needs.{needs}
 use Rattle.order_check.proofs.check.first_out.Statement.{statement}
 use Rattle.order_check.proofs.check.first_out.Tie as tie
 
@@ -24,9 +24,4 @@ returns c =
 pub first-out-spec : {M : Type 1} → statement M
 first-out-spec =
     tie.close
-    (tie.spec
-    note-places-requires
-    (λ c κs. search needs)
-    (λ c κs. search needs)
-    (λ c. search needs)
-    returns)
+    (tie.spec note-places-requires (λ c κs. search needs) (λ c κs. search needs) (λ c. search needs) returns)

@@ -1,8 +1,8 @@
 -- `order_check::check::out_of_place` meets its contract: what no rule refuses is checked. Assumes nothing.
 use mathlib.Core.Path.{sym, _∙_}
+use borrow.Author.Needs.{needs}
 use Rattle.laws.proofs.Answers.{put, refused}
 use Rattle.order_check.proofs.Told.{checkable-is}
-use borrow.Author.Needs.{needs}
 use Rattle.order_check.proofs.check.out_of_place.Statement.{statement}
 use Rattle.order_check.proofs.check.out_of_place.Tie as tie
 
@@ -20,8 +20,4 @@ returns-2 c = (c .before .listed .ensures, sym (refused (c .before .listed .resu
 pub out-of-place-spec : {M : Type 1} → statement M
 out-of-place-spec =
     tie.close
-    (tie.spec
-    (λ c κs. search needs)
-    first-out-requires
-    returns
-    returns-2)
+    (tie.spec (λ c κs. search needs) first-out-requires returns returns-2)

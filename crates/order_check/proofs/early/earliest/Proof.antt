@@ -2,9 +2,9 @@
 use mathlib.Core.Path.{_≡_, sym, subst}
 use Prim.Native.Nat.{_+_, _-_, _≤_}
 use native.Mathlib.Omega.{arith}
+use borrow.Author.Needs.{needs}
 use Rattle.order_check.specs.inner.Places.{Least, EarlyIn}
 use Rattle.order_check.proofs.Least.{rows-none, rows-more}
-use borrow.Author.Needs.{needs}
 use Rattle.order_check.proofs.early.earliest.Statement.{statement}
 use Rattle.order_check.proofs.early.earliest.Tie as tie
 
@@ -38,13 +38,4 @@ returns c =
 pub earliest-spec : {M : Type 1} → statement M
 earliest-spec =
     tie.close
-    (tie.spec
-    Inv-loop
-    μ-loop
-    loop-holds
-    earliest-in-row-requires
-    (λ c κs. search needs)
-    (λ c. search needs)
-    (λ c. search needs)
-    loop-again
-    returns)
+    (tie.spec Inv-loop μ-loop loop-holds earliest-in-row-requires (λ c κs. search needs) (λ c. search needs) (λ c. search needs) loop-again returns)

@@ -3,10 +3,10 @@ use mathlib.Core.Path.{_≡_, sym, ap₂, subst, _∙_}
 use mathlib.Core.List.{List}
 use Prim.Native.Nat.{ℕ, _+_, _*_, _-_, _<_, min}
 use native.Mathlib.Omega.{arith}
+use borrow.Author.Needs.{needs}
 use Rattle.maps.specs.Neighbours.Side.{A, B, C, D}
 use Rattle.order_check.specs.inner.Places.{Least, EarlyOn, EarlyAt}
 use Rattle.order_check.proofs.Least.{RowIn, row-in, on-side, spans-a, spans-b, spans-c, spans-d, row-first, row-sides}
-use borrow.Author.Needs.{needs}
 use Rattle.order_check.proofs.early.earliest_in_row.Statement.{statement}
 use Rattle.order_check.proofs.early.earliest_in_row.Tie as tie
 
@@ -93,23 +93,6 @@ returns-2 c =
 pub earliest-in-row-spec : {M : Type 1} → statement M
 earliest-in-row-spec =
     tie.close
-    (tie.spec
-    mul-row
-    add-earliest-back
-    add-earliest-back-2
-    earliest-back-requires
-    returns
-    add-earliest-back-3
-    earliest-back-requires-2
-    add-earliest-back-4
-    sub-earliest-back
-    sub-earliest-back-2
-    earliest-back-requires-3
-    add-earliest-back-5
-    add-earliest-back-6
-    (λ c. search needs)
-    earliest-back-requires-4
-    (λ c κs. search needs)
-    (λ c κs. search needs)
-    (λ c κs. search needs)
-    returns-2)
+    (tie.spec mul-row add-earliest-back add-earliest-back-2 earliest-back-requires returns add-earliest-back-3 earliest-back-requires-2
+    add-earliest-back-4 sub-earliest-back sub-earliest-back-2 earliest-back-requires-3 add-earliest-back-5 add-earliest-back-6 (λ c. search needs)
+    earliest-back-requires-4 (λ c κs. search needs) (λ c κs. search needs) (λ c κs. search needs) returns-2)

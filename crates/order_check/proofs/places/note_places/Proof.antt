@@ -3,9 +3,9 @@ use mathlib.Core.Path.{sym, subst}
 use Prim.Native.Nat.{_-_, _<_}
 use native.Mathlib.Omega.{arith}
 use lib.ListN.{length}
+use borrow.Author.Needs.{needs}
 use Rattle.order_check.specs.inner.Places.{NotedTo}
 use Rattle.order_check.proofs.Named.{noted-none, noted-more, noted-stop, noted-all}
-use borrow.Author.Needs.{needs}
 use Rattle.order_check.proofs.places.note_places.Statement.{statement}
 use Rattle.order_check.proofs.places.note_places.Tie as tie
 
@@ -73,22 +73,5 @@ returns-2 c =
 pub note-places-spec : {M : Type 1} → statement M
 note-places-spec =
     tie.close
-    (tie.spec
-    Inv-loop
-    μ-loop
-    loop-holds
-    (λ c. search needs)
-    (λ c. search needs)
-    (λ c κs. search needs)
-    mul-if1
-    element-copy-out-if1
-    cast-result
-    returns
-    cast-places
-    mul-places
-    element-write-places
-    (λ c. search needs)
-    (λ c. search needs)
-    loop-again
-    cast-result-2
-    returns-2)
+    (tie.spec Inv-loop μ-loop loop-holds (λ c. search needs) (λ c. search needs) (λ c κs. search needs) mul-if1 element-copy-out-if1 cast-result
+    returns cast-places mul-places element-write-places (λ c. search needs) (λ c. search needs) loop-again cast-result-2 returns-2)
