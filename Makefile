@@ -69,6 +69,7 @@ examples: $(ARCHIVE)
 	$(RUN) --example workers
 	$(RUN) --example night 5
 	$(RUN) --example wave
+	$(RUN) --example partner
 
 diff: $(ARCHIVE)
 	$(RUN) -p harness --bin diff

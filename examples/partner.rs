@@ -84,6 +84,7 @@ fn main() {
     let mut twice = sent.clone();
     twice[100] = twice[99];
     let told = serve(&twice).expect_err("a macroblock twice does not pass");
+    assert_eq!(told, "entry 100, macroblock (4, 9), is out of place");
     assert_eq!(replay(&twice).err(), Some((100, Refusal::Done)));
     println!("a macroblock twice: {told}");
 

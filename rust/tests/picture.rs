@@ -403,8 +403,9 @@ fn names_have_the_numbers_of_the_records() {
     assert_eq!([ChromaMode::Dc, ChromaMode::Horizontal, ChromaMode::Vertical, ChromaMode::Plane].map(u8::from), [0, 1, 2, 3]);
     assert_eq!((LumaMode::from_number(8), LumaMode::from_number(9)), (Some(LumaMode::HorizontalUp), None));
     assert_eq!((ChromaMode::from_number(3), ChromaMode::from_number(4)), (Some(ChromaMode::Plane), None));
-    assert_eq!(Refusal::ALL.iter().map(|r| r.number()).collect::<Vec<_>>(), (1..=9).collect::<Vec<_>>());
-    assert_eq!(Refusal::from_number(10), None);
+    assert_eq!(Refusal::ALL.iter().map(|r| r.number()).collect::<Vec<_>>(), [1, 2, 3, 4, 5, 6, 7, 8, 9, 13]);
+    assert!(Refusal::ALL.iter().all(|&r| Refusal::from_number(r.number()) == Some(r)));
+    assert_eq!([0, 10, 11, 12, 14, u32::MAX].map(Refusal::from_number), [None; 6]);
 
     let mut picture = Picture::new(1, 1).unwrap();
     for record in [

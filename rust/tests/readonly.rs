@@ -401,6 +401,95 @@ fn turns_only_read_the_maps() {
     assert_eq!(tried(counted), Ok(0), "turns: an answer, or the signal of a write into the slice map");
 }
 
+/// A call of `check_order` or of `out_of_place` for 2 by 3 macroblocks in two slices, which is good until it is bent. The list does not pass: macroblock 3
+/// comes before its neighbour to the left.
+struct Ordered {
+    w: u32,
+    h: u32,
+    slices: Vec<u16>,
+    order: Vec<u32>,
+}
+
+type CheckOrder = unsafe extern "C" fn(u32, u32, *const u16, usize, *const u32, usize, *mut u32) -> u32;
+type BendOrder = fn(&mut Ordered);
+
+const CHECKS_OF_ORDER: [(&str, CheckOrder); 2] = [("check_order", jiwarbend_check_order), ("out_of_place", jiwarbend_out_of_place)];
+
+impl Ordered {
+    fn new() -> Ordered {
+        Ordered { w: 2, h: 3, slices: vec![9, 9, 7, 7, 7, 7], order: vec![0, 3, 2, 4, 5, 1] }
+    }
+
+    /// The call over memory that can only be read.
+    fn call(self, export: CheckOrder) -> impl FnOnce() -> u32 {
+        let (slices, order, said) = (ReadOnly::new(&self.slices), ReadOnly::new(&self.order), ReadOnly::new(&[77u32]));
+        move || unsafe { export(self.w, self.h, slices.at(), slices.len(), order.at(), order.len(), said.at()) }
+    }
+}
+
+#[test]
+fn orders() {
+    let bends: [(u32, &[BendOrder]); 3] = [
+        (1, &[|o| o.w = 0, |o| o.w = 121, |o| o.h = 0, |o| o.h = 69, |o| (o.w, o.h) = (u32::MAX, u32::MAX)]),
+        (2, &[|o| o.slices.truncate(5), |o| o.slices.push(7), |o| o.slices.clear()]),
+        (
+            13,
+            &[
+                |o| o.order.truncate(5),
+                |o| o.order.push(1),
+                |o| o.order.clear(),
+                // The first entry, the last, and one behind the entry that is out of place.
+                |o| o.order[0] = 6,
+                |o| o.order[5] = 6,
+                |o| o.order[4] = u32::MAX,
+            ],
+        ),
+    ];
+    for (name, export) in CHECKS_OF_ORDER {
+        for (number, bends) in bends {
+            for (k, bend) in bends.iter().enumerate() {
+                let mut call = Ordered::new();
+                bend(&mut call);
+                refused(&format!("{name}, bent in way {k}"), number, call.call(export));
+            }
+        }
+        accepted(name, Ordered::new().call(export));
+        accepted(name, Ordered { order: vec![0, 2, 3, 4, 5, 1], ..Ordered::new() }.call(export));
+        // Where a size or a length is wrong, neither a slice number nor an address is read: not one of them can be.
+        let lengths = [
+            (1, 0, 3, 0, 0),
+            (1, 121, 3, 363, 363),
+            (1, 2, 69, 138, 138),
+            (2, 2, 3, 5, 6),
+            (2, 2, 3, 7, 6),
+            (13, 2, 3, 6, 5),
+            (13, 2, 3, 6, 7),
+        ];
+        for (number, w, h, slices, order) in lengths {
+            let (no_slices, no_order, said) = (ReadOnly::new(&[0u16; 0]), ReadOnly::new(&[0u32; 0]), ReadOnly::new(&[77u32]));
+            let call = move || unsafe { export(w, h, no_slices.at(), slices, no_order.at(), order, said.at()) };
+            refused(&format!("{name}, without lists"), number, call);
+        }
+    }
+}
+
+#[test]
+fn orders_are_only_read() {
+    // What is written is lent on the stack, and all else in pages that cannot be written.
+    let slices = ReadOnly::new(&Ordered::new().slices);
+    for (list, wanted) in [([0, 3, 2, 4, 5, 1], [0, 1]), ([0, 2, 3, 4, 5, 1], [1, 6])] {
+        let order = ReadOnly::new(&list);
+        for ((name, export), wanted) in CHECKS_OF_ORDER.into_iter().zip(wanted) {
+            let call = || {
+                let mut said = 77;
+                let answer = unsafe { export(2, 3, slices.at(), slices.len(), order.at(), order.len(), &mut said) };
+                answer + (said != wanted) as u32
+            };
+            assert_eq!(tried(call), Ok(0), "{name}: an answer, or the signal of a write into the slice map or the list");
+        }
+    }
+}
+
 /// A list's length: one short, one long and empty.
 fn wrong_lengths(right: usize) -> [usize; 3] {
     [right - 1, right + 1, 0]

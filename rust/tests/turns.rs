@@ -1,12 +1,14 @@
 //! Turn lists for idle cores: the row counts and the turns are those of the rule, which is written here once more, row by row. What a turn lists meets no
 //! refusal in any order, no turn is empty before the picture is finished, and a picture that is rebuilt turn by turn is that of raster order. It takes as many
 //! turns as are counted beforehand.
+mod maps;
 #[allow(dead_code)]
 mod memory;
 mod store;
 
 use jiwarbend::sys::{jiwarbend_count_rows, jiwarbend_turn, jiwarbend_turns};
 use jiwarbend::{turns, ChromaMode, Lent, LentPlane, Luma16x16Mode, LumaMode, Picture, Progress, Record, Refusal};
+use maps::{same_planes, shuffled, slice_map};
 use memory::Numbers;
 
 /// What the three calls are lent, whatever its lengths are. A test compares all of it, to see what was written and what was not.
@@ -104,21 +106,6 @@ impl Maps {
 }
 
 const SIZES: [(u32, u32); 12] = [(1, 1), (1, 2), (1, 68), (2, 1), (120, 1), (2, 2), (2, 68), (3, 2), (5, 4), (8, 13), (40, 22), (120, 68)];
-
-/// One slice, slices of rows, of runs, scattered ones, a slice for each macroblock, a checkerboard and columns. Some numbers differ in one of their bytes only.
-fn slice_map((w, h): (u32, u32), numbers: &mut Numbers) -> Vec<u16> {
-    let run = 1 + numbers.below(2 * w);
-    let scattered = |numbers: &mut Numbers| [0, 256, 65_535, 255][numbers.below(4) as usize];
-    match numbers.below(7) {
-        0 => vec![numbers.below(65_536) as u16; (w * h) as usize],
-        1 => (0..w * h).map(|a| (a / w) as u16).collect(),
-        2 => (0..w * h).map(|a| (a / run) as u16).collect(),
-        3 => (0..w * h).map(|_| scattered(numbers)).collect(),
-        4 => (0..w * h).map(|a| (a % w + a / w) as u16 % 2 * 256).collect(),
-        5 => (0..w * h).map(|a| (a % w) as u16).collect(),
-        _ => (0..w * h).map(|a| a as u16).collect(),
-    }
-}
 
 /// A map in which so many of a row are done from the left, and of the rest one in `strays`, if any. What is undone has any byte but 1.
 fn done_map((w, h): (u32, u32), numbers: &mut Numbers) -> Vec<u8> {
@@ -433,17 +420,6 @@ fn coded() -> [Job; 3] {
         let record = |(kind, modes, chroma_mode, numbers)| Record { kind, modes, chroma_mode, numbers };
         Job { maps: Maps::of((w, h), slices, vec![0; (w * h) as usize]), records: records.into_iter().map(record).collect() }
     })
-}
-
-fn shuffled(mut turn: Vec<u32>, numbers: &mut Numbers) -> Vec<u32> {
-    for last in (1..turn.len()).rev() {
-        turn.swap(last, numbers.below(last as u32 + 1) as usize);
-    }
-    turn
-}
-
-fn same_planes(a: &Picture, b: &Picture) -> bool {
-    a.luma() == b.luma() && a.cb() == b.cb() && a.cr() == b.cr()
 }
 
 /// Small pictures, some of one column or one row.

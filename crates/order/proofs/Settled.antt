@@ -4,9 +4,9 @@ use mathlib.Core.Logic.{_≢_}
 use mathlib.Core.List.{List, [], _∷_}
 use Prim.Native.Nat.{ℕ, zero, suc, _<_}
 use native.Mathlib.Nat.{lt-irrefl, lt-of-lt-of-le, lt-trans, le-refl, not-suc-le-zero, le-of-suc-le-suc}
-use native.Mathlib.Decide.{ℕ-discrete, decLt}
+use native.Mathlib.Decide.{ℕ-discrete}
 use native.Mathlib.Omega.{arith}
-use lib.ListN.{getD, set, length, length-set, replicate, length-replicate, getD-replicate, List·getD-eq-default}
+use lib.ListN.{getD, set, length, length-set, replicate}
 use lib.Seq.{getD-set-same, getD-set-other}
 use Rattle.order.specs.Order.{Alike, Laws, Done, Ready, build, marked, Permitted}
 
@@ -24,13 +24,14 @@ done-still d a b h e = go (ℕ-discrete b a)
 pub done-before : (d : List ℕ) (a b : ℕ) → b ≢ a → Done (set d a 1) b → Done d b
 done-before d a b q e = sym (getD-set-other d a b 1 0 q) ∙ e
 
--- in an empty map nothing is
+-- a list of zeros is 0 everywhere, so that in an empty map nothing is done
+pub zero-at : (n b : ℕ) → getD {A = ℕ} (replicate n 0) b 0 ≡ 0
+zero-at zero b = refl
+zero-at (suc n) zero = refl
+zero-at (suc n) (suc b) = zero-at n b
+
 pub none-done : (n b : ℕ) → ¬ Done (replicate n 0) b
-none-done n b e = let z : _≡_ {A = ℕ} 0 1 = sym (zero-at (decLt b n)) ∙ e in omega arith
-  where
-    zero-at : Dec (b < n) → getD {A = ℕ} (replicate n 0) b 0 ≡ 0
-    zero-at (yes h) = getD-replicate n b 0 0 h
-    zero-at (no h) = List·getD-eq-default (replicate n 0) 0 (omega (arith, length-replicate {A = ℕ} n 0))
+none-done n b e = let z : _≡_ {A = ℕ} 0 1 = sym (zero-at n b) ∙ e in omega arith
 
 module _ {M I X : Type 0} {at : M → I → X} {ok : M → Type 0} {n : ℕ} {R : ℕ → I → Type 0} {N : ℕ → ℕ → Type 0} {step : ℕ → M → M}
     (L : Laws at ok n R N step) where

@@ -8,7 +8,7 @@ use native.Mathlib.Decide.{ℕ-discrete, decLt}
 use native.Mathlib.Nat.{not-suc-le-zero}
 use native.Mathlib.Omega.{arith}
 use lib.Dec.{eqb, ltb}
-use lib.ListN.{getD, length, set, length-set, replicate, length-replicate, getD-replicate}
+use lib.ListN.{getD, length, set, length-set, replicate, getD-replicate}
 use lib.Seq.{getD-set-same, getD-set-other}
 use borrow.Author.Tests.{eqb-true, eq-eqb, ne-eqb, ltb-true, lt-ltb, le-ltb}
 use Rattle.laws.proofs.Tests.{not-both, no-from, and-both, and-of, implied, implied-of, some-none, some-next, some-of, some-is}
@@ -79,26 +79,22 @@ module _ (order : List ℕ) where
     entry-no n = no-from (entryOk w slices order i) entry-is n
 
   -- ---- noted places
-  pub noted-none : (places : List ℕ) → places ≡ replicate 8160 65535 → NotedTo order 0 places
+  pub noted-none : (places : List ℕ) → places ≡ replicate (length places) 65535 → NotedTo order 0 places
   noted-none places is = record {
-    long = ap length is ∙ length-replicate {A = ℕ} 8160 65535;
     most = omega arith;
     new = λ i l. absurd (not-suc-le-zero l);
     named = λ j a l h. let z : j ≡ 0 = omega arith in rw (z, named-none a, le-ltb (getD places a 0) 0 (omega arith));
-    only = λ a h. inr (ap (λ l. getD l a 0) is ∙ getD-replicate 8160 a 65535 0 h);
+    only = λ a h. inr (ap (λ l. getD l a 0) is ∙ getD-replicate (length places) a 65535 0 h);
   }
 
-  module _ (i a : ℕ) (places : List ℕ) (n : NotedTo order i places) (l : i < length order) (is : a ≡ getD order i 0) (h : a < 8160) where
+  module _ (i a : ℕ) (places : List ℕ) (n : NotedTo order i places) (l : i < length order) (is : a ≡ getD order i 0) (h : a < length places) where
     -- one more that was not named
     pub noted-more : i < 65535 → getD places a 0 ≡ 65535 → NotedTo order (i + 1) (set places a i)
-    noted-more few free = record {
-      long = length-set places a i ∙ n .long;
-      most = omega arith;
-      new = new;
-      named = named;
-      only = only;
-    }
+    noted-more few free = record { most = omega arith; new = new; named = λ j b m hb. named j b m (kept b hb); only = λ b hb. only b (kept b hb) }
       where
+        kept : (b : ℕ) → b < length (set places a i) → b < length places
+        kept b hb = omega (arith, length-set places a i)
+
         unnamed : namedBefore order i a ≡ false
         unnamed = n .named i a (omega arith) h ∙ le-ltb (getD places a 0) i (omega (arith, free))
 
@@ -110,12 +106,12 @@ module _ (order : List ℕ) where
             go (no q) = n .new j (omega arith)
 
         here : getD (set places a i) a 0 ≡ i
-        here = getD-set-same places a i 0 (omega (arith, n .long))
+        here = getD-set-same places a i 0 h
 
         there : (b : ℕ) → ¬ (b ≡ a) → getD (set places a i) b 0 ≡ getD places b 0
         there b q = getD-set-other places a b i 0 q
 
-        only : (b : ℕ) → b < 8160 → (getD (set places a i) b 0 < i + 1) ⊎ (getD (set places a i) b 0 ≡ 65535)
+        only : (b : ℕ) → b < length places → (getD (set places a i) b 0 < i + 1) ⊎ (getD (set places a i) b 0 ≡ 65535)
         only b m = go (ℕ-discrete b a)
           where
             wider : (getD places b 0 < i) ⊎ (getD places b 0 ≡ 65535) → (getD places b 0 < i + 1) ⊎ (getD places b 0 ≡ 65535)
@@ -127,7 +123,7 @@ module _ (order : List ℕ) where
             go (no q) = rw (there b q) (wider (n .only b m))
 
         -- the places up to i, and then all
-        before : (j b : ℕ) → j ≤ i → b < 8160 → namedBefore order j b ≡ ltb (getD (set places a i) b 0) j
+        before : (j b : ℕ) → j ≤ i → b < length places → namedBefore order j b ≡ ltb (getD (set places a i) b 0) j
         before j b m hb = go (ℕ-discrete b a)
           where
             go : Dec (b ≡ a) → namedBefore order j b ≡ ltb (getD (set places a i) b 0) j
@@ -136,7 +132,7 @@ module _ (order : List ℕ) where
                 (n .named j a m h ∙ le-ltb (getD places a 0) j (omega (arith, free)) ∙ sym (le-ltb (getD (set places a i) a 0) j (omega (arith, here))))
             go (no q) = n .named j b m hb ∙ ap (λ p. ltb p j) (sym (there b q))
 
-        last : (b : ℕ) → b < 8160 → namedBefore order (i + 1) b ≡ ltb (getD (set places a i) b 0) (i + 1)
+        last : (b : ℕ) → b < length places → namedBefore order (i + 1) b ≡ ltb (getD (set places a i) b 0) (i + 1)
         last b hb = go (ℕ-discrete b a)
           where
             go : Dec (b ≡ a) → namedBefore order (i + 1) b ≡ ltb (getD (set places a i) b 0) (i + 1)
@@ -153,7 +149,7 @@ module _ (order : List ℕ) where
                 same (inl e) = lt-ltb (getD places b 0) i e ∙ sym (lt-ltb (getD places b 0) (i + 1) (omega arith))
                 same (inr e) = le-ltb (getD places b 0) i (omega arith) ∙ sym (le-ltb (getD places b 0) (i + 1) (omega arith))
 
-        named : (j b : ℕ) → j ≤ i + 1 → b < 8160 → namedBefore order j b ≡ ltb (getD (set places a i) b 0) j
+        named : (j b : ℕ) → j ≤ i + 1 → b < length places → namedBefore order j b ≡ ltb (getD (set places a i) b 0) j
         named j b m hb = go (decLt i j)
           where
             go : Dec (i < j) → namedBefore order j b ≡ ltb (getD (set places a i) b 0) j
@@ -161,20 +157,24 @@ module _ (order : List ℕ) where
             go (no q) = before j b (omega arith) hb
 
     -- one that was
-    pub noted-stop : ¬ (getD places a 0 ≡ 65535) → Noted order i places
-    noted-stop taken = record { to = n; stop = λ m. subst (λ b. namedBefore order i b ≡ true) is (n .named i a (omega arith) h ∙ go (n .only a h)) }
+    pub noted-stop : (k : ℕ) → length places ≡ k → ¬ (getD places a 0 ≡ 65535) → Noted order i k places
+    noted-stop k long taken = record {
+      long = long;
+      to = n;
+      stop = λ m. subst (λ b. namedBefore order i b ≡ true) is (n .named i a (omega arith) h ∙ go (n .only a h));
+    }
       where
         go : (getD places a 0 < i) ⊎ (getD places a 0 ≡ 65535) → ltb (getD places a 0) i ≡ true
         go (inl e) = lt-ltb (getD places a 0) i e
         go (inr e) = absurd (taken e)
 
-  pub noted-all : (i : ℕ) (places : List ℕ) → NotedTo order i places → ¬ (i < length order) → Noted order i places
-  noted-all i places n l = record { to = n; stop = λ m. absurd (l m) }
+  pub noted-all : (i k : ℕ) (places : List ℕ) → length places ≡ k → NotedTo order i places → ¬ (i < length order) → Noted order i k places
+  noted-all i k places long n l = record { long = long; to = n; stop = λ m. absurd (l m) }
 
   -- ---- what noted places say of the first k entries
   module _ (k : ℕ) (places : List ℕ) (n : NotedTo order k places) where
     -- the entry at place i has place i
-    pub place-is : (i : ℕ) → i < k → getD order i 0 < 8160 → getD places (getD order i 0) 0 ≡ i
+    pub place-is : (i : ℕ) → i < k → getD order i 0 < length places → getD places (getD order i 0) 0 ≡ i
     place-is i l h =
         let a = getD order i 0 in
         let up = ltb-true (getD places a 0) (i + 1) (sym (n .named (i + 1) a (omega arith) h) ∙ named-yes (i + 1) a i (omega arith) refl) in
@@ -188,7 +188,7 @@ module _ (order : List ℕ) where
             go (no m) = omega arith
 
     -- and a macroblock whose place is one of theirs stands there
-    pub place-at : (a : ℕ) → a < 8160 → getD places a 0 < k → getD order (getD places a 0) 0 ≡ a
+    pub place-at : (a : ℕ) → a < length places → getD places a 0 < k → getD order (getD places a 0) 0 ≡ a
     place-at a h l =
         let p = getD places a 0 in
         let f = named-is (p + 1) a (n .named (p + 1) a (omega arith) h ∙ lt-ltb p (p + 1) (omega arith)) in

@@ -2,7 +2,7 @@
 use mathlib.Core.Path.{_≡_, refl, sym, ap, subst, _∙_}
 use mathlib.Core.Bool.{Bool, true, false, cond}
 use mathlib.Core.List.{List, [], _∷_}
-use Prim.Native.Nat.{ℕ, suc, _+_, _<_, _≤_}
+use Prim.Native.Nat.{ℕ, suc, _+_, _/_, _%_, _<_, _≤_}
 use native.Mathlib.Decide.{decLt}
 use native.Mathlib.Nat.{add-zero}
 use native.Mathlib.Omega.{arith}
@@ -11,17 +11,18 @@ use lib.ListN.{getD, length, replicate}
 use borrow.Author.Tests.{eqb-true, eq-eqb, ltb-true, lt-ltb}
 use Rattle.laws.specs.Table.{allBelow}
 use Rattle.laws.proofs.Answers.{passes-by}
-use Rattle.laws.proofs.Tests.{not-both, all-at, all-of}
+use Rattle.laws.proofs.Tests.{not-both, and-of, all-at, all-of}
 use Rattle.order.specs.FullOrder.{InPlace, FullOrder}
 use Rattle.order.specs.Lists.{Permutes, joined}
 use Rattle.order.specs.Order.{AllDone, marked, Permitted, raster}
-use Rattle.order.proofs.FullOrder.{permitted-full, full-long, each-full}
+use Rattle.order.proofs.FullOrder.{full-fewer, permitted-full, full-long, each-full}
 use Rattle.order.proofs.Orders.{permitted-append, marked-append}
 use Rattle.order.proofs.Permuted.{marked-permuted}
 use Rattle.order.proofs.Raster.{raster-permitted, raster-done}
-use Rattle.maps.specs.Neighbours.{Adjoins, SliceMap}
-use Rattle.maps.specs.Size.{total, sizeOk}
-use Rattle.maps.proofs.Beside.{adjoins-before}
+use Rattle.order.proofs.Settled.{zero-at}
+use Rattle.maps.specs.Neighbours.{beside, Adjoins, SliceMap}
+use Rattle.maps.specs.Size.{total, address, sizeOk}
+use Rattle.maps.proofs.Beside.{available-inside, adjoins-before}
 use Rattle.maps.proofs.Sizes.{size-is, size-yes}
 use Rattle.turn_list.specs.Turn.{turn}
 use Rattle.turn_list.proofs.Begun.{turn-permitted}
@@ -164,19 +165,33 @@ module _ (w h : ℕ) (slices : List ℕ) where
         (subst (λ d. AllDone (total w h) (marked (joined os) d)) none-yet
         (subst (AllDone (total w h)) (sym (turns-marked os 0 k)) (how-many w h slices (m .size) .finished (0 + length os) .1 (omega arith)))))
 
-  pub told : SliceMap w h slices → Told w h slices
-  told m = record {
-    passes = λ order. (full-is order, full-yes order m);
-    no = verdict-no;
-    before = λ order e. before order;
-    out = λ order e l. out order (omega (arith, checkable-is order e .long));
-    end = λ order e.
-        let long = checkable-is order e .long in
-        (omega (arith, leads order .most), ((λ q. end-yes order (q ∙ sym long)), (λ v. end-is order v ∙ long)));
-    in-raster = in-raster m;
-    in-turns = in-turns m;
-  }
+-- ---- in one slice every neighbour in the picture is available
+module _ (w h : ℕ) (slices : List ℕ) (m : SliceMap w h slices) where
+  abbrev zeros : List ℕ
+  zeros = replicate (total w h) 0
 
-  -- where the call answers 0, the slice map is a good one
-  pub told-by : (order : List ℕ) → orderAnswer w h (length slices) order ≡ 0 → Told w h slices
-  told-by order e = told (checkable-is order e .map)
+  one-number : (a b : ℕ) → Adjoins w slices a b → Adjoins w zeros a b
+  one-number a b (k, t, is) =
+      let same = eq-eqb _ _ (zero-at (total w h) (beside w (a % w) (a / w) k) ∙ sym (zero-at (total w h) (address w (a % w) (a / w)))) in
+      (k, and-of (available-inside w (a % w) (a / w) slices k t) same, is)
+
+  one-slice : (order : List ℕ) → Passes w h zeros order → Passes w h slices order
+  one-slice order p = full-yes w h slices order m (full-fewer (λ a b l. one-number a b) (full-is w h zeros order p))
+
+pub told : (w h : ℕ) (slices : List ℕ) → SliceMap w h slices → Told w h slices
+told w h slices m = record {
+  passes = λ order. (full-is w h slices order, full-yes w h slices order m);
+  no = verdict-no w h slices;
+  before = λ order e. before w h slices order;
+  out = λ order e l. out w h slices order (omega (arith, checkable-is w h slices order e .long));
+  end = λ order e.
+      let long = checkable-is w h slices order e .long in
+      (omega (arith, leads w h slices order .most), ((λ q. end-yes w h slices order (q ∙ sym long)), (λ v. end-is w h slices order v ∙ long)));
+  in-raster = in-raster w h slices m;
+  in-turns = in-turns w h slices m;
+  one-slice = one-slice w h slices m;
+}
+
+-- where the call answers 0, the slice map is a good one
+pub told-by : (w h : ℕ) (slices order : List ℕ) → orderAnswer w h (length slices) order ≡ 0 → Told w h slices
+told-by w h slices order e = told w h slices (checkable-is w h slices order e .map)

@@ -3,7 +3,7 @@ use mathlib.Core.Path.{_≡_}
 use mathlib.Core.Logic.{_↔_}
 use mathlib.Core.List.{List, [], _∷_}
 use Prim.Native.Nat.{ℕ, suc, _<_, _≤_}
-use lib.ListN.{length}
+use lib.ListN.{length, replicate}
 use Rattle.order.specs.FullOrder.{InPlace, FullOrder}
 use Rattle.order.specs.Lists.{Permutes, joined}
 use Rattle.order.specs.Order.{raster}
@@ -13,12 +13,12 @@ use Rattle.turn_list.specs.Turn.{turn}
 use Rattle.turn_count.specs.Count.{doneAfter, turnCount}
 use Rattle.order_check.specs.Check.{outOfPlace, verdictOf, orderAnswer}
 
-module _ (w h : ℕ) (slices : List ℕ) where
-  -- the list is not refused, and yes is said of it
-  pub record Passes (order : List ℕ) : Type 0 where
-    pub answers : orderAnswer w h (length slices) order ≡ 0
-    pub yes : verdictOf w slices order ≡ 1
+-- the list is not refused, and yes is said of it
+pub record Passes (w h : ℕ) (slices order : List ℕ) : Type 0 where
+  pub answers : orderAnswer w h (length slices) order ≡ 0
+  pub yes : verdictOf w slices order ≡ 1
 
+module _ (w h : ℕ) (slices : List ℕ) where
   -- whole turns after the first t, each in any order
   abbrev pub WholeTurns : ℕ → List (List ℕ) → Type 0
   WholeTurns t [] = Unit {0}
@@ -26,7 +26,7 @@ module _ (w h : ℕ) (slices : List ℕ) where
 
   pub record Told : Type 0 where
     -- ---- yes and no
-    pub passes : (order : List ℕ) → Passes order ↔ FullOrder (total w h) (Adjoins w slices) order
+    pub passes : (order : List ℕ) → Passes w h slices order ↔ FullOrder (total w h) (Adjoins w slices) order
     -- there is nothing else
     pub no : (order : List ℕ) → ¬ (verdictOf w slices order ≡ 1) → verdictOf w slices order ≡ 0
     -- ---- where it is no
@@ -38,5 +38,7 @@ module _ (w h : ℕ) (slices : List ℕ) where
         → (outOfPlace w slices order ≤ total w h) × ((outOfPlace w slices order ≡ total w h) ↔ (verdictOf w slices order ≡ 1))
     -- ---- orders that pass
     -- raster order, and any joining of turns, as many as the picture takes or more
-    pub in-raster : Passes (raster (total w h))
-    pub in-turns : (os : List (List ℕ)) → WholeTurns 0 os → turnCount w h slices ≤ length os → Passes (joined os)
+    pub in-raster : Passes w h slices (raster (total w h))
+    pub in-turns : (os : List (List ℕ)) → WholeTurns 0 os → turnCount w h slices ≤ length os → Passes w h slices (joined os)
+    -- and what passes in one slice, which has the most neighbours
+    pub one-slice : (order : List ℕ) → Passes w h (replicate (total w h) 0) order → Passes w h slices order

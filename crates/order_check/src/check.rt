@@ -4,8 +4,9 @@ ghost use lib.ListN.{length, getD};
 ghost use lib.Dec.{ltb};
 ghost use Rattle.laws.specs.Answer.{written};
 ghost use Rattle.laws.specs.Table.{allBelow};
+ghost use Rattle.maps.specs.Size.{total};
 ghost use Rattle.order_check.specs.Check.{outOfPlace, verdictOf, orderAnswer};
-ghost use Rattle.order_check.specs.inner.Places.{Checkable};
+ghost use Rattle.order_check.specs.inner.Places.{Checkable, Unnamed};
 use super::early::earliest;
 use super::early::lesser;
 use super::places::note_places;
@@ -36,7 +37,7 @@ pub fn out_of_place(w: u32, h: u32, slices: &[u16], order: &[u32], place: &mut u
 {
     let answer = listed(w, h, slices.len(), order);
     if answer == 0 {
-        *place = first_out(w as usize, h as usize, slices, order);
+        *place = first_out(w, h, slices, order);
     }
     answer
 }
@@ -75,13 +76,25 @@ fn all_inside(order: &[u32], total: u32) -> bool
     inside
 }
 
-// An entry is out of place where its macroblock was named before, or comes before a neighbour; the first such entry is found by the places of the macroblocks.
-fn first_out(w: usize, h: usize, slices: &[u16], order: &[u32]) -> u32
+// The place of the first entry that is out of place, for a list that no rule refuses. A small picture does not wait for a large table.
+fn first_out(w: u32, h: u32, slices: &[u16], order: &[u32]) -> u32
     requires { ⌜ Checkable w h (now slices) (now order) ⌝ }
     ensures { λ r. ⌜ r ≡ outOfPlace w (now (slices .entry)) (now (order .entry)) ⌝ }
 {
-    let mut places = [65535u16; 8160];
-    let named = note_places(order, &mut places);
-    let early = earliest(w, h, slices, &places);
+    if order.len() <= 1024 {
+        let mut few = [65535u16; 1024];
+        return first_by_places(w, h, slices, order, &mut few);
+    }
+    let mut many = [65535u16; 8160];
+    first_by_places(w, h, slices, order, &mut many)
+}
+
+// An entry is out of place where its macroblock was named before, or comes before a neighbour. The places are noted in a table that is lent.
+fn first_by_places(w: u32, h: u32, slices: &[u16], order: &[u32], places: &mut [u16]) -> u32
+    requires { ⌜ Checkable w h (now slices) (now order) × Unnamed (total w h) (now places) ⌝ }
+    ensures { λ r. ⌜ r ≡ outOfPlace w (now (slices .entry)) (now (order .entry)) ⌝ }
+{
+    let named = note_places(order, places);
+    let early = earliest(w, h, slices, places);
     lesser(named, early) as u32
 }

@@ -1,12 +1,12 @@
 // Where in the list each macroblock comes: its place, and 65535 while it is not named.
 ghost use mathlib.Core.Path.{_≡_};
-ghost use lib.ListN.{replicate};
+ghost use lib.ListN.{length};
 ghost use Rattle.order_check.specs.inner.Places.{Inside, Noted};
 
 // Notes the places of a list up to the first entry that names a macroblock again, and answers that entry's place, or the list's length.
-pub(crate) fn note_places(order: &[u32], places: &mut [u16; 8160]) -> u16
-    requires { ⌜ Inside (now order) × (now places ≡ replicate 8160 65535) ⌝ }
-    ensures { λ r. ⌜ Noted (now (order .entry)) r (now (places .exit)) ⌝ }
+pub(crate) fn note_places(order: &[u32], places: &mut [u16]) -> u16
+    requires { ⌜ Inside (now order) (now places) ⌝ }
+    ensures { λ r. ⌜ Noted (now (order .entry)) r (length (now (places .entry))) (now (places .exit)) ⌝ }
 {
     let mut i = 0;
     while i < order.len() {

@@ -382,6 +382,39 @@ pub fn shuffled(random: &mut Random, n: usize) -> Vec<usize> {
     order
 }
 
+/// The macroblocks by diagonals, each from its top right end down to the left: an order that passes, whatever the slices.
+pub fn diagonal_order(w: u32, h: u32) -> Vec<u32> {
+    let diagonal = |d: u32| (0..h).filter(move |&y| y <= d && d - y < w).map(move |y| y * w + d - y);
+    (0..w + h - 1).flat_map(diagonal).collect()
+}
+
+/// An order at random in which each macroblock comes after all its available neighbours.
+pub fn permitted_order(random: &mut Random, w: u32, slices: &[u16]) -> Vec<u32> {
+    let (w, many) = (w as usize, slices.len());
+    // For each macroblock those that wait for it, and how many it waits for itself.
+    let (mut waiting, mut missing) = (vec![Vec::new(); many], vec![0; many]);
+    for address in 0..many {
+        let n = driver::near(w, slices, address % w, address / w);
+        for (_, back) in [(n.a, 1), (n.b, w), (n.c, w - 1), (n.d, w + 1)].into_iter().filter(|&(there, _)| there) {
+            waiting[address - back].push(address);
+            missing[address] += 1;
+        }
+    }
+    let mut ready: Vec<usize> = (0..many).filter(|&address| missing[address] == 0).collect();
+    let mut order = Vec::with_capacity(many);
+    while !ready.is_empty() {
+        let address = ready.swap_remove(random.below(ready.len()));
+        order.push(address as u32);
+        for &next in &waiting[address] {
+            missing[next] -= 1;
+            if missing[next] == 0 {
+                ready.push(next);
+            }
+        }
+    }
+    order
+}
+
 /// An acceptable record for each macroblock; its kind by `kind`.
 pub fn good_records(random: &mut Random, w: u32, h: u32, slices: &[u16], kind: impl Fn(&mut Random) -> u8) -> Vec<Record> {
     (0..(w * h) as usize)

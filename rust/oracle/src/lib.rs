@@ -1,11 +1,12 @@
 //! The Rust that was ported, as its own files say it, beside it the 8x8 inverse and the range of the values inside both inverses, which they do not
-//! have, and around all of it the rules of docs/RULES.md: what a call is refused for, what a mode reads, the turn list, and a driver over whole pictures that
-//! makes the same checks in the same order as the port.
+//! have, and around all of it the rules of docs/RULES.md: what a call is refused for, what a mode reads, the turn list, the check of an order, and a driver
+//! over whole pictures that makes the same checks in the same order as the port.
 include!(concat!(env!("OUT_DIR"), "/modules.rs"));
 
 pub mod driver;
 pub mod halfway;
 pub mod inverse_8x8;
+pub mod orders;
 pub mod reads;
 pub mod rules;
 pub mod turns;

@@ -1,18 +1,20 @@
 //! The port and the Rust side by side in one run, on the same inputs. The Rust comes in the best forms that are known for it: with the same
 //! checks as the port and without them, and for pictures each also with a short way for blocks of no or one coefficient; the faster of the two is
-//! what the port is held against; so are turn lists, where the short way looks at eight marks together, and numbers of turns, where it looks at no more of
-//! a row than tells them. The 8x8 inverse, the turn lists and the numbers of turns are those that the differential runs compare with. All are timed in turns,
-//! many times; what is told is the median of the ratios with the quartiles around it.
+//! what the port is held against; so are turn lists, where the short way looks at eight marks together, numbers of turns, where it looks at no more of a row
+//! than tells them, and checks of an order, where it compares the places of neighbours and does not walk along the list. The 8x8 inverse, the turn lists, the
+//! numbers of turns and the checks are those that the differential runs compare with. All are timed in turns, many times; what is told is the median of the
+//! ratios with the quartiles around it.
 //!
 //! `bench FOLDER [ROUNDS [PART]]` writes table.md, benchmark.svg and, of all rows, headline.md into the folder; with PART the rows that have it in
 //! their names. Where valgrind is installed the table also has the instructions of each side: valgrind runs this program again with `count`, which
 //! makes each call of the same rows a fixed number of times and times nothing.
-use harness::{bare_share, good_record, good_records, slice_map, sparse_records, Density, Guarded, Memory, Random, Record};
+use harness::{bare_share, diagonal_order, good_record, good_records, permitted_order, slice_map, sparse_records};
+use harness::{Density, Guarded, Memory, Random, Record};
 use jiwarbend::sys::*;
 use oracle::inverse_8x8::inverse_8x8;
 use oracle::predict::{self, I16Mode};
 use oracle::rules::{self, Marks, Square};
-use oracle::{driver, intra_pred, transform, turns};
+use oracle::{driver, intra_pred, orders, transform, turns};
 use std::fmt::Write;
 use std::hint::black_box;
 use std::path::Path;
@@ -650,7 +652,7 @@ fn waiting() -> Vec<Row> {
 const SIZES: [(u32, u32); 3] = [(11, 9), (40, 22), (120, 68)];
 
 /// What the calls for turns are lent, in one slice.
-#[derive(Clone)]
+#[derive(Clone, PartialEq, Eq)]
 struct Maps {
     w: u32,
     h: u32,
@@ -727,7 +729,7 @@ impl Maps {
 }
 
 /// A call over the same pictures on each side.
-fn over_pictures(name: String, pictures: &[Maps], calls: [&dyn Fn(&mut Maps) -> u32; 5]) -> Row {
+fn over_pictures<P: Clone + PartialEq>(group: &'static str, name: String, pictures: &[P], calls: [&dyn Fn(&mut P) -> u32; 5]) -> Row {
     let mut of_sides = vec![pictures.to_vec(); 5];
     let mut sides: Vec<_> = of_sides
         .iter_mut()
@@ -739,12 +741,9 @@ fn over_pictures(name: String, pictures: &[Maps], calls: [&dyn Fn(&mut Maps) -> 
             }
         })
         .collect();
-    let row = compare("turns", name, 1.0, sides.iter_mut().map(|side| side as Timed).collect());
+    let row = compare(group, name, 1.0, sides.iter_mut().map(|side| side as Timed).collect());
     drop(sides);
-    for of_side in &of_sides {
-        let same = |(a, b): (&Maps, &Maps)| (&a.rows, &a.list, a.how_many) == (&b.rows, &b.list, b.how_many);
-        assert!(of_side.iter().zip(&of_sides[PORT]).all(same), "every side said the same of each picture");
-    }
+    assert!(of_sides.iter().all(|of_side| *of_side == of_sides[PORT]), "every side said the same of each picture");
     row
 }
 
@@ -756,6 +755,7 @@ fn turn_lists() -> Vec<Row> {
         let halves: Vec<Maps> = (0..16).map(|_| Maps::half_done(&mut random, w, h)).collect();
         let name = |call: &str| format!("{call} of {w} by {h} macroblocks");
         rows.push(over_pictures(
+            "turns",
             name("count_rows, half"),
             &halves,
             [
@@ -767,6 +767,7 @@ fn turn_lists() -> Vec<Row> {
             ],
         ));
         rows.push(over_pictures(
+            "turns",
             name("turn, half"),
             &halves,
             [
@@ -793,6 +794,7 @@ fn turn_lists() -> Vec<Row> {
         ));
         for (slices, maps) in [("one slice", Maps::new(w, h)), ("8 slices", Maps::in_eight_slices(w, h))] {
             rows.push(over_pictures(
+                "turns",
                 name(&format!("turns, {slices}")),
                 &[maps],
                 [
@@ -801,6 +803,59 @@ fn turn_lists() -> Vec<Row> {
                     &Maps::port_turns,
                     &Maps::rust_turns::<true, true>,
                     &Maps::rust_turns::<false, true>,
+                ],
+            ));
+        }
+    }
+    rows
+}
+
+/// What the check of an order is lent, in one slice.
+#[derive(Clone, PartialEq, Eq)]
+struct Ordered {
+    w: u32,
+    h: u32,
+    slices: Vec<u16>,
+    order: Vec<u32>,
+    verdict: u32,
+}
+
+impl Ordered {
+    fn new(w: u32, h: u32, order: Vec<u32>) -> Ordered {
+        Ordered { w, h, slices: vec![0; (w * h) as usize], order, verdict: 0 }
+    }
+
+    fn rust<const CHECKS: bool, const SHORT: bool>(&mut self) -> u32 {
+        orders::check_order::<CHECKS, SHORT>(self.w, self.h, &self.slices, &self.order, &mut self.verdict)
+    }
+
+    fn port(&mut self) -> u32 {
+        let (slices, order) = (&self.slices, &self.order);
+        unsafe { jiwarbend_check_order(self.w, self.h, slices.as_ptr(), slices.len(), order.as_ptr(), order.len(), &mut self.verdict) }
+    }
+}
+
+/// The check of lists that pass: raster order, diagonals, and any order in which each comes after its neighbours.
+fn order_checks() -> Vec<Row> {
+    let mut random = Random::new(6);
+    let mut rows = Vec::new();
+    for (w, h) in SIZES {
+        let slices = vec![0; (w * h) as usize];
+        let any = (0..16).map(|_| permitted_order(&mut random, w, &slices)).collect();
+        let lists: [(&str, Vec<Vec<u32>>); 3] =
+            [("raster order", vec![(0..w * h).collect()]), ("diagonals", vec![diagonal_order(w, h)]), ("any order", any)];
+        for (name, lists) in lists {
+            let ordered: Vec<Ordered> = lists.into_iter().map(|order| Ordered::new(w, h, order)).collect();
+            rows.push(over_pictures(
+                "orders",
+                format!("check_order, {name} of {w} by {h} macroblocks"),
+                &ordered,
+                [
+                    &Ordered::rust::<true, false>,
+                    &Ordered::rust::<false, false>,
+                    &Ordered::port,
+                    &Ordered::rust::<true, true>,
+                    &Ordered::rust::<false, true>,
                 ],
             ));
         }
@@ -920,12 +975,13 @@ fn predictions(inputs: &Inputs) -> Vec<Row> {
     rows
 }
 
-const GROUPS: [(&str, &str); 8] = [
+const GROUPS: [(&str, &str); 9] = [
     ("coded", "Whole pictures that x264 coded, nanoseconds for a macroblock"),
     ("sparse", "Whole pictures with as few coefficients as those, nanoseconds for a macroblock"),
     ("random", "Whole pictures with numbers at random, nanoseconds for a macroblock"),
     ("waiting", "Macroblocks that are refused as not ready, nanoseconds for a call"),
     ("turns", "Row counts, turn lists and numbers of turns, nanoseconds for a call; all turns of a picture, for a turn with its counts"),
+    ("orders", "Checks of an order that passes, nanoseconds for a call"),
     ("prediction", "Prediction, nanoseconds for a block"),
     ("sums", "Inverses and clipped sums, nanoseconds for a block"),
     ("small", "Small routines and start, nanoseconds for a call"),
@@ -989,7 +1045,7 @@ fn headline(rows: &[Row]) -> String {
         let (least, most) = of.fold((f64::MAX, 0.0), |(a, b): (f64, f64), v| (a.min(v), b.max(v)));
         format!("{least:.2} to {most:.2}")
     };
-    let pictures = ["coded", "sparse", "random", "waiting", "turns"];
+    let pictures = ["coded", "sparse", "random", "waiting", "turns", "orders"];
     let blocks: Vec<&Row> = rows.iter().filter(|r| !pictures.contains(&r.group)).collect();
     let slower = |checks: bool| blocks.iter().filter(|r| r.ratio(checks).middle > 1.0).count();
     format!(
@@ -1073,6 +1129,7 @@ fn main() {
     rows.extend(random_pictures());
     rows.extend(waiting());
     rows.extend(turn_lists());
+    rows.extend(order_checks());
     rows.extend(predictions(&inputs));
     rows.extend(blocks(&inputs));
     rows.extend(small(&inputs));

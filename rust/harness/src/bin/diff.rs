@@ -7,21 +7,27 @@
 //! What a mode reads, and so what a macroblock waits for, was found by trial with the Rust's predictors (`oracle::reads`); calls that are accepted beside an
 //! undone neighbour are counted, and a run without them is a failure. The turn list has no Rust to be held against: a second writing of its rule stands
 //! for it (`oracle::turns`). The number of turns is held against the turns that this one takes, and a run in which it never hangs on one of the neighbours is
-//! a failure.
+//! a failure. So it is with the check of an order (`oracle::orders`): of the lists some pass and some do not, for each neighbour alone and for a macroblock
+//! that is named twice.
 use harness::ends::{at_an_end, bring_in, past_an_end};
-use harness::{block_marks, good_record, good_records, shuffled, slice_map, Guarded, Memory, Random, Record};
-use jiwarbend::block;
+use harness::{
+    block_marks, diagonal_order, good_record, good_records, permitted_order, shuffled, slice_map, Guarded, Memory, Random, Record,
+};
 use jiwarbend::sys::*;
 use jiwarbend::turned::{Case, Case4x4, Case8x8};
+use jiwarbend::{block, Refusal};
 use oracle::rules::{self, Marks, Square};
-use oracle::{driver, halfway, predict, reads, turns};
+use oracle::{driver, halfway, orders, predict, reads, turns};
 use std::collections::BTreeMap;
+
+/// The answers are below this number.
+const ANSWERS: usize = 14;
 
 struct Report {
     scale: usize,
     passed: usize,
     failed: usize,
-    seen: [u64; 10],
+    seen: [u64; ANSWERS],
 }
 
 /// The calls of one routine: which answers are due, how often each was given and in how many of a hundred cases it must be, how many cases came by
@@ -29,7 +35,7 @@ struct Report {
 struct Routine<'a> {
     name: String,
     due: &'static [u32],
-    seen: [u64; 10],
+    seen: [u64; ANSWERS],
     least_each: u64,
     wrong: u64,
     turned: u64,
@@ -41,7 +47,7 @@ struct Routine<'a> {
 impl Report {
     fn routine(&mut self, name: impl Into<String>, due: &'static [u32]) -> Routine<'_> {
         let name = name.into();
-        Routine { name, due, seen: [0; 10], least_each: 0, wrong: 0, turned: 0, least_turned: 0, lacks: String::new(), report: self }
+        Routine { name, due, seen: [0; ANSWERS], least_each: 0, wrong: 0, turned: 0, least_turned: 0, lacks: String::new(), report: self }
     }
 
     /// Cases that are accepted or refused for their range, and often enough each.
@@ -76,7 +82,7 @@ impl Routine<'_> {
 
 impl Drop for Routine<'_> {
     fn drop(&mut self) {
-        let answers = || (0..10).filter(|&n| self.seen[n as usize] > 0);
+        let answers = || (0..ANSWERS as u32).filter(|&n| self.seen[n as usize] > 0);
         let missing: Vec<u32> = self.due.iter().copied().filter(|&n| self.seen[n as usize] == 0).collect();
         let odd: Vec<u32> = answers().filter(|n| !self.due.contains(n)).collect();
         let mut verdict = if self.wrong == 0 { "equal".to_string() } else { format!("{} DIFFER", self.wrong) };
@@ -1471,10 +1477,201 @@ fn pictures_by_turns(report: &mut Report) {
     println!("  {rounds} pictures took {lists} turns, as many as were counted before");
 }
 
+/// What the two calls for the check of an order are lent, between guards.
+#[derive(Clone, Debug, PartialEq, Eq)]
+struct Ordered {
+    w: u32,
+    h: u32,
+    slices: Guarded<u16>,
+    order: Guarded<u32>,
+    /// The verdict or the place.
+    said: Guarded<u32>,
+}
+
+impl Ordered {
+    /// A picture of this size in slices of any kind, with an order that passes.
+    fn new(random: &mut Random, size: (u32, u32)) -> Ordered {
+        let Sliced { w, h, mut slices, .. } = Sliced::new(random, size);
+        let order = match random.below(4) {
+            0 => (0..w * h).collect(),
+            1 => diagonal_order(w, h),
+            _ => permitted_order(random, w, slices.inner()),
+        };
+        Ordered { w, h, slices, order: Guarded::new(&order), said: Guarded::new(&[random.word() as u32]) }
+    }
+
+    fn port(&mut self, export: CheckOrder) -> u32 {
+        let (slices, order, said) = (self.slices.inner(), self.order.inner(), self.said.inner());
+        unsafe { export(self.w, self.h, slices.as_ptr(), slices.len(), order.as_ptr(), order.len(), said.as_mut_ptr()) }
+    }
+
+    fn rust(&mut self, form: fn(u32, u32, &[u16], &[u32], &mut u32) -> u32) -> u32 {
+        form(self.w, self.h, self.slices.inner(), self.order.inner(), &mut self.said.inner()[0])
+    }
+
+    /// Compares both calls of the port with the walk along the list, and gives the answer. The forms of the benchmark say the same.
+    fn compare(&self, routine: &mut Routine) -> u32 {
+        let [mut ours, mut ours_of_place, mut wanted, mut wanted_of_place] = [(); 4].map(|()| self.clone());
+        let answers = (ours.port(jiwarbend_check_order), ours_of_place.port(jiwarbend_out_of_place));
+        let said = wanted_of_place.rust(orders::out_of_place);
+        if said == 0 {
+            wanted.said.inner()[0] = u32::from(wanted_of_place.said.inner()[0] == self.w * self.h);
+        }
+        let with_checks = [orders::check_order::<true, false>, orders::check_order::<true, true>];
+        let without = [orders::check_order::<false, false>, orders::check_order::<false, true>];
+        for form in with_checks.into_iter().chain(without.into_iter().filter(|_| said == 0)) {
+            let mut other = self.clone();
+            assert_eq!((other.rust(form), &other), (said, &wanted), "the walk along the list and the forms of the check");
+        }
+        routine.told((answers.0, ours), (said, wanted), || format!("the verdict of {self:?}"));
+        routine.told((answers.1, ours_of_place), (said, wanted_of_place), || format!("the place of {self:?}"));
+        said
+    }
+}
+
+type CheckOrder = unsafe extern "C" fn(u32, u32, *const u16, usize, *const u32, usize, *mut u32) -> u32;
+
+/// Changes entries of a list, if it has any: two of them are chosen.
+fn spoil(order: &mut [u32], random: &mut Random, change: fn(&mut [u32], [usize; 2], &mut Random)) {
+    if !order.is_empty() {
+        let two = [(); 2].map(|()| random.below(order.len()));
+        change(order, two, random);
+    }
+}
+
+/// The ways in which a list is spoilt that stays one of the picture's addresses: two entries are exchanged, wherever they stand or one behind the other, one
+/// is moved, one is put over another, or all behind one are any.
+const SPOILT: [fn(&mut [u32], [usize; 2], &mut Random); 5] = [
+    |order, [one, other], _| order.swap(one, other),
+    |order, [one, _], _| order.swap(one, (one + 1) % order.len()),
+    |order, [one, other], _| order[one.min(other)..=one.max(other)].rotate_left(1),
+    |order, [one, other], _| order[one] = order[other],
+    |order, [one, _], random| {
+        let many = order.len();
+        order[one..].iter_mut().for_each(|address| *address = random.below(many) as u32);
+    },
+];
+
+/// The ways in which a call for the check of an order is bent.
+const BENT_ORDERED: [fn(&mut Ordered, &mut Random); 6] = [
+    |o, random| o.w = random.pick(&[0, 121, u32::MAX, 1 << 16, o.w.wrapping_add(1), o.w.wrapping_sub(1)]),
+    |o, random| o.h = random.pick(&[0, 69, u32::MAX, 1 << 16, o.h.wrapping_add(1), o.h.wrapping_sub(1)]),
+    |o, random| resize(&mut o.slices, random),
+    |o, random| resize(&mut o.order, random),
+    // An address just outside the picture, one that is inside it in 16 bits, and any.
+    |o, random| {
+        let (most, any) = (o.w.wrapping_mul(o.h), random.word() as u32);
+        let outside = random.pick(&[most, most.wrapping_add(1), most | 1 << 16, 1 << 16, 1 << 31, u32::MAX, any]);
+        let at = random.below(o.order.len().max(1));
+        if let Some(address) = o.order.inner().get_mut(at) {
+            *address = outside;
+        }
+    },
+    // A macroblock comes into another slice, and the list does not follow.
+    |o, random| {
+        let (at, from) = (random.below(o.slices.len().max(1)), random.below(o.slices.len().max(1)));
+        let slices = o.slices.inner();
+        if !slices.is_empty() {
+            slices[at] = slices[from];
+        }
+    },
+];
+
+/// The check of an order: sizes at their limits, one column and one row, small and large ones; lists that pass, each as it is, spoilt and bent.
+fn order_checks(report: &mut Report) {
+    let (rounds, large) = (report.many(200_000), report.many(400));
+    let mut routine = report.routine("check_order and out_of_place", &[0, 1, 2, 13]);
+    let mut random = Random::new(29);
+    let limits = [(1, 1), (120, 1), (121, 1), (1, 68), (1, 69), (120, 68), (121, 68), (120, 69), (119, 67)];
+    let mut sizes: Vec<(u32, u32)> = limits.into_iter().flat_map(|size| [size; 20]).collect();
+    sizes.extend((0..rounds).map(|k| {
+        let mut up_to = |most: usize| 1 + random.below(most) as u32;
+        match k % 32 {
+            0 => (1, up_to(68)),
+            1 => (up_to(120), 1),
+            2 => (up_to(3), up_to(68)),
+            3 => (up_to(120), up_to(3)),
+            4 => (up_to(40), up_to(24)),
+            _ => (up_to(9), up_to(8)),
+        }
+    }));
+    sizes.extend((0..large).map(|k| if k % 2 == 0 { (120, 68) } else { (1 + random.below(120) as u32, 1 + random.below(68) as u32) }));
+    let (mut yes, mut no, mut hangs) = (0u64, 0u64, [0u64; 5]);
+    for size in sizes {
+        let mut ordered = Ordered::new(&mut random, size);
+        for _ in 0..random.pick(&[0, 0, 1, 1, 1, 2]) {
+            let change = random.pick(&SPOILT);
+            spoil(ordered.order.inner(), &mut random, change);
+        }
+        for _ in 0..random.pick(&[0, 0, 0, 0, 1, 2]) {
+            random.pick(&BENT_ORDERED)(&mut ordered, &mut random);
+        }
+        if ordered.compare(&mut routine) == 0 {
+            let (_, faults) = orders::walk(ordered.w, ordered.slices.inner(), ordered.order.inner());
+            let kinds = faults.iter().filter(|&&fault| fault).count();
+            yes += u64::from(kinds == 0);
+            no += u64::from(kinds > 0);
+            (0..5).filter(|&k| kinds == 1 && faults[k]).for_each(|k| hangs[k] += 1);
+        }
+    }
+    let [a, b, c, d, twice] = hangs;
+    println!("  {yes} lists passed and {no} did not, for A alone {a}, for B {b}, for C {c}, for D {d}, and for a macroblock twice {twice}");
+    if yes == 0 || no == 0 || hangs.contains(&0) {
+        routine.lacks += ", NO LIST OF SOME KIND";
+    }
+}
+
+/// Whole pictures by lists that pass, and by spoilt ones, against the Rust in raster order. A list that passes is never refused, one that names a macroblock
+/// twice always is, and one that does not pass for its neighbours may be accepted, as far as the records read less.
+fn pictures_by_orders(report: &mut Report) {
+    let rounds = report.many(1_000);
+    let mut routine = report.routine("pictures, by an order", &[0]);
+    let mut random = Random::new(31);
+    let (mut passed, mut refused, mut accepted) = (0, 0, 0);
+    for round in 0..rounds {
+        let size = if round == 0 { (120, 68) } else { (1 + random.below(9) as u32, 1 + random.below(8) as u32) };
+        let (w, h) = size;
+        let mut ordered = Ordered::new(&mut random, size);
+        let slices = ordered.slices.inner().to_vec();
+        let mut records = good_records(&mut random, w, h, &slices, |random| random.below(3) as u8);
+        if round % 2 == 1 {
+            let change = random.pick(&SPOILT);
+            spoil(ordered.order.inner(), &mut random, change);
+            for (a, r) in records.iter_mut().enumerate() {
+                *r = one_way(&mut random, r.kind, driver::near(w as usize, &slices, a % w as usize, a / w as usize));
+            }
+        }
+        let mut port = Memory::new(&mut random, w, h, slices, 0);
+        let mut wanted = port.clone();
+        for (a, r) in records.iter().enumerate() {
+            let said = wanted.rust(a as u32 % w, a as u32 / w, r.kind, &r.modes, r.chroma_mode, &r.numbers);
+            assert_eq!(said, 0, "a good record is taken in raster order");
+        }
+        let (_, faults) = orders::walk(w, ordered.slices.inner(), ordered.order.inner());
+        let (yes, twice) = (!faults.contains(&true), faults[4]);
+        let checked = (ordered.port(jiwarbend_check_order), ordered.said.inner()[0]);
+        let offers = ordered.order.inner().iter().map(|&a| {
+            let r = &records[a as usize];
+            port.port(a % w, a / w, r.kind, &r.modes, r.chroma_mode, &r.numbers)
+        });
+        let steady = offers.fold(true, |steady, answer| steady & (answer == 0));
+        let as_due = (!yes || steady) && !(twice && steady);
+        let is_same = !steady || (&port.planes, &port.done) == (&wanted.planes, &wanted.done);
+        routine.same((checked, as_due, is_same), ((0, u32::from(yes)), true, true), || format!("picture {round}, {w} by {h}"));
+        passed += u64::from(yes);
+        refused += u64::from(!yes && !steady);
+        accepted += u64::from(!yes && steady);
+    }
+    println!("  {passed} lists passed; of the others {refused} were refused and {accepted} accepted");
+    if passed == 0 || refused == 0 || accepted == 0 {
+        routine.lacks += ", NO LIST OF SOME KIND";
+    }
+}
+
 fn main() {
     // A share of the random cases in percent: the whole run takes some minutes under an emulator.
     let scale = std::env::args().nth(1).map_or(100, |s| s.parse().expect("a share in percent"));
-    let mut report = Report { scale, passed: 0, failed: 0, seen: [0; 10] };
+    let mut report = Report { scale, passed: 0, failed: 0, seen: [0; ANSWERS] };
     small(&mut report);
     let turn_4x4 = Turn { case: Case4x4::turned, block: Case4x4::transposed, least: 50 };
     let turn_8x8 = Turn { case: Case8x8::turned, block: Case8x8::transposed, least: 20 };
@@ -1530,9 +1727,11 @@ fn main() {
     turn_lists(&mut report);
     turn_counts(&mut report);
     pictures_by_turns(&mut report);
+    order_checks(&mut report);
+    pictures_by_orders(&mut report);
     println!("\nall calls, by answer:");
-    for (answer, times) in report.seen.iter().enumerate() {
-        println!("  {answer} {times:>9}");
+    for answer in [0].into_iter().chain(Refusal::ALL.iter().map(|refusal| refusal.number())) {
+        println!("{answer:>4} {:>9}", report.seen[answer as usize]);
     }
     println!("{} passed, {} failed", report.passed, report.failed);
     std::process::exit((report.failed > 0) as i32);
