@@ -328,27 +328,29 @@ fn the_first_entry_out_of_place_is_told() {
 }
 
 #[test]
-fn every_place_of_the_largest_picture_counts() {
-    let (w, h) = (120, 68);
-    let raster: Vec<u32> = (0..w * h).collect();
-    let mut sent = Sent::in_one_slice((w, h), raster.clone());
-    for place in 0..raster.len() - 1 {
-        sent.order.swap(place, place + 1);
-        // The second of two in a row waits for the first; the first of a row does not wait for the last one above it.
-        let due = if (place as u32 + 1) % w > 0 { Verdict::No { place, address: place as u32 + 1 } } else { Verdict::Yes };
-        assert_eq!(check_order(w, h, &sent.slices, &sent.order), Ok(due), "place {place}");
-        sent.order.swap(place, place + 1);
-    }
-    // Backwards the very first entry is out of place, unless none waits.
-    sent.order.reverse();
-    assert_eq!(sent.verdict(), Verdict::No { place: 0, address: w * h - 1 });
-    sent.slices = (0..w * h).map(|a| a as u16).collect();
-    assert!(sent.is_yes());
-    // The last entry is a macroblock that is named before it, the first one or the last but one.
-    for address in [0, w * h - 2] {
-        sent.order = raster.clone();
-        sent.order[raster.len() - 1] = address;
-        assert_eq!(sent.verdict(), Verdict::No { place: raster.len() - 1, address });
+fn every_place_of_a_large_picture_counts() {
+    // 1024 macroblocks, one more, and as many as there can be.
+    for (w, h) in [(32, 32), (25, 41), (120, 68)] {
+        let raster: Vec<u32> = (0..w * h).collect();
+        let mut sent = Sent::in_one_slice((w, h), raster.clone());
+        for place in 0..raster.len() - 1 {
+            sent.order.swap(place, place + 1);
+            // The second of two in a row waits for the first; the first of a row does not wait for the last one above it.
+            let due = if (place as u32 + 1) % w > 0 { Verdict::No { place, address: place as u32 + 1 } } else { Verdict::Yes };
+            assert_eq!(check_order(w, h, &sent.slices, &sent.order), Ok(due), "place {place}");
+            sent.order.swap(place, place + 1);
+        }
+        // Backwards the very first entry is out of place, unless none waits.
+        sent.order.reverse();
+        assert_eq!(sent.verdict(), Verdict::No { place: 0, address: w * h - 1 });
+        sent.slices = (0..w * h).map(|a| a as u16).collect();
+        assert!(sent.is_yes());
+        // The last entry is a macroblock that is named before it, the first one or the last but one.
+        for address in [0, w * h - 2] {
+            sent.order = raster.clone();
+            sent.order[raster.len() - 1] = address;
+            assert_eq!(sent.verdict(), Verdict::No { place: raster.len() - 1, address });
+        }
     }
 }
 

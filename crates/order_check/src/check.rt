@@ -82,11 +82,11 @@ fn first_out(w: u32, h: u32, slices: &[u16], order: &[u32]) -> u32
     ensures { λ r. ⌜ r ≡ outOfPlace w (now (slices .entry)) (now (order .entry)) ⌝ }
 {
     if order.len() <= 1024 {
-        let mut few = [65535u16; 1024];
-        return first_by_places(w, h, slices, order, &mut few);
+        let mut small = [65535u16; 1024];
+        return first_by_places(w, h, slices, order, &mut small);
     }
-    let mut many = [65535u16; 8160];
-    first_by_places(w, h, slices, order, &mut many)
+    let mut large = [65535u16; 8160];
+    first_by_places(w, h, slices, order, &mut large)
 }
 
 // An entry is out of place where its macroblock was named before, or comes before a neighbour. The places are noted in a table that is lent.
