@@ -848,7 +848,7 @@ fn order_checks() -> Vec<Row> {
             let ordered: Vec<Ordered> = lists.into_iter().map(|order| Ordered::new(w, h, order)).collect();
             rows.push(over_pictures(
                 "orders",
-                format!("check_order, {name} of {w} by {h} macroblocks"),
+                format!("check_order, {name}, {w} by {h}"),
                 &ordered,
                 [
                     &Ordered::rust::<true, false>,
