@@ -848,7 +848,7 @@ fn order_checks() -> Vec<Row> {
             let ordered: Vec<Ordered> = lists.into_iter().map(|order| Ordered::new(w, h, order)).collect();
             rows.push(over_pictures(
                 "orders",
-                format!("check_order, {name}, {w} by {h}"),
+                format!("check {name}, {w} by {h}"),
                 &ordered,
                 [
                     &Ordered::rust::<true, false>,
@@ -981,7 +981,7 @@ const GROUPS: [(&str, &str); 9] = [
     ("random", "Whole pictures with numbers at random, nanoseconds for a macroblock"),
     ("waiting", "Macroblocks that are refused as not ready, nanoseconds for a call"),
     ("turns", "Row counts, turn lists and numbers of turns, nanoseconds for a call; all turns of a picture, for a turn with its counts"),
-    ("orders", "Checks of an order that passes, nanoseconds for a call"),
+    ("orders", "`check_order` of lists that pass, nanoseconds for a call"),
     ("prediction", "Prediction, nanoseconds for a block"),
     ("sums", "Inverses and clipped sums, nanoseconds for a block"),
     ("small", "Small routines and start, nanoseconds for a call"),
