@@ -19,7 +19,8 @@
 
    Memory. A list is a pointer and the number of its elements; the pointer is not null, also where the number is 0, and has the alignment of its
    element. What a call writes overlaps nothing else that the same call is lent. The library keeps nothing between two calls and takes no memory
-   of its own but the stack: some 17 KB in jiwarbend_check_order and jiwarbend_out_of_place, and less than 4 KB in the others.
+   of its own but the stack: on x86-64 some 17 KB in jiwarbend_check_order and jiwarbend_out_of_place, and less than 4 KB in
+   the others.
 
    Threads. One call at a time for a picture; different pictures side by side. A call reads and writes what it is lent and nothing else, takes
    no lock, and expects that nobody else writes what it is lent or reads what it writes before it has returned. Two threads that call
