@@ -1,4 +1,6 @@
 // What the clauses on residuals and on prediction share (H.264 clauses 8.3 and 8.5), and the numbers that go with coefficients.
+#![tactic(auto)]
+
 pub mod clip; // 5.7: Clip1
 pub mod fill; // one value over lent bytes
 pub mod marks; // 8.3: permitted modes, and what a predictor answers

@@ -5,7 +5,7 @@ ghost use Rattle.laws.specs.Answer.{◌unless◌, answer};
 ghost use Rattle.basics.specs.Marks.{permitted_nxn, permitted16x16, permitted_chroma, mode_set, bit, lists_answer};
 
 // Four sides of a block, each with a mark: above, left, the corner, and above and to the right.
-#[derive(Drop)]
+#[derive(Clone, Copy)]
 pub struct Sides {
     pub above: bool,
     pub left: bool,

@@ -1,1 +1,2 @@
 // No functions: the definitions and laws that every crate cites.
+#![tactic(auto)]

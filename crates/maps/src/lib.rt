@@ -1,4 +1,6 @@
 // What a picture keeps of its macroblocks beside their samples: its size, who is whose neighbour, which are done, and how far it is.
+#![tactic(auto)]
+
 pub mod done; // which macroblocks are done
 pub mod neighbours; // 6.4.9: neighbouring macroblocks
 pub mod progress; // the progress record, starting and accepting

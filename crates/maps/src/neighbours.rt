@@ -7,7 +7,7 @@ use super::size::{place_ok, size_ok};
 use basics::tests::both;
 
 // The marks of the neighbours: whether A (left), B (above), C (above-right) and D (above-left) are available.
-#[derive(Drop)]
+#[derive(Clone, Copy)]
 pub struct Marks {
     pub a: bool,
     pub b: bool,

@@ -6,7 +6,7 @@ ghost use Rattle.maps.specs.Progress.{accepted_of, begun, start_answer};
 use super::size::size_ok;
 
 // The number of accepted macroblocks, and the last one's address.
-#[derive(Drop)]
+#[derive(Clone, Copy)]
 pub struct Progress {
     pub count: u32,
     pub last: u32,

@@ -5,7 +5,7 @@ ghost use Rattle.maps.specs.Size.{size_ok, place_ok};
 use basics::tests::both;
 
 // Where a macroblock stands: the picture's size, and the macroblock's column and row.
-#[derive(Drop)]
+#[derive(Clone, Copy)]
 pub struct Spot {
     pub w: u32,
     pub h: u32,

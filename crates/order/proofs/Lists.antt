@@ -16,11 +16,13 @@ place_names (a ∷ o) zero h = inl refl
 place_names (a ∷ o) (suc i) h = inr (place_names o i (le_of_suc-le-suc h))
 
 pub names_place : (o : List ℕ) (a : ℕ) → Names o a → (i : ℕ) × (i < length o) × (get_or o i 0 ≡ a)
+names_place [] a x' = elim x' [ ]
 names_place (b ∷ o) a (inl e) = (0, omega arith, sym e)
 names_place (b ∷ o) a (inr n) = let p = names_place o a n in (suc p.0, omega (arith, p.1), p.2)
 
 -- ---- joined
 pub names_left : (l m : List ℕ) (a : ℕ) → Names l a → Names (l ++ m) a
+names_left [] m a x' = elim x' [ ]
 names_left (b ∷ l) m a (inl e) = inl e
 names_left (b ∷ l) m a (inr n) = inr (names_left l m a n)
 

@@ -37,6 +37,7 @@ marked_still (b ∷ o) d a inside e =
     marked_still o (set d b 1) a (λ c n. rw length-set (inside c (inr n))) (done_still d b a (inside b (inl refl)) e)
 
 pub marked_named : (o d : List ℕ) (a : ℕ) → ((b : ℕ) → Names o b → b < length d) → Names o a → Done (marked o d) a
+marked_named [] d a inside x'' = elim x'' [ ]
 marked_named (b ∷ o) d a inside (inl e) =
     marked_still o (set d b 1) a (λ c n. rw length-set (inside c (inr n))) (rw e (done_here d b (inside b (inl refl))))
 marked_named (b ∷ o) d a inside (inr n) = marked_named o (set d b 1) a (λ c m. rw length-set (inside c (inr m))) n
@@ -52,6 +53,7 @@ marked_only (b ∷ o) d a e = go (marked_only o (set d b 1) a e) (ℕ_discrete a
 
 -- the steps of a permitted order are undone before it
 pub permitted_undone : (n : ℕ) (N : ℕ → ℕ → Type 0) (o d : List ℕ) → length d ≡ n → Permitted n N o d → (a : ℕ) → Names o a → (a < n) × ¬ Done d a
+permitted_undone n N [] d len t a x3 = elim x3 [ ]
 permitted_undone n N (b ∷ o) d len t a (inl e) = subst (λ c. (c < n) × ¬ Done d c) (sym e) (t.0, t.1)
 permitted_undone n N (b ∷ o) d len t a (inr m) =
     let p = permitted_undone n N o (set d b 1) (length-set d b 1 ∙ len) t.3 a m in
