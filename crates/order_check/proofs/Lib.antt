@@ -2,4 +2,5 @@
 pub mod Told
 mod FirstOut
 mod Least
+mod Listed
 mod Named

@@ -41,6 +41,7 @@ pub fn out_of_place(w: u32, h: u32, slices: &[u16], order: &[u32], place: &mut u
 }
 
 // The rules, in the order of their numbers, for a slice map of so many entries.
+#[tactic(auto, using(crate::proofs::Listed::by_rule))]
 fn listed(w: u32, h: u32, entries: usize, order: &[u32]) -> u32
     ensures { result ≡ order_answer w h entries order.now }
 {

@@ -6,9 +6,10 @@ use Prim.Native.Nat.{ℕ, zero, suc, ◌+◌, ◌*◌, ◌<◌, ◌≤◌, zero-
 use native.Mathlib.Nat.{not-suc-le-zero, mul-le-mul_right, suc-mul}
 use native.Mathlib.Decide.{dec_lt}
 use native.Mathlib.Omega.{arith}
-use lib.ListN.{length}
+use lib.ListN.{get_or, length}
+use borrow.Author.Tests.{eq-eqb, ne_eqb}
 use Rattle.laws.specs.Table.{all_below}
-use Rattle.laws.proofs.Tests.{not_both, all_at}
+use Rattle.laws.proofs.Tests.{not_both, all_at, all_more}
 use Rattle.maps.specs.Done.{is_done}
 use Rattle.maps.specs.Size.{address}
 use Rattle.turn_list.specs.Turn.{leading, gapless}
@@ -55,6 +56,22 @@ row_count w done y x m a s = record {
   is = leads_same w (done_at w done y) x (gapless w done y) (record { most = m; all = all_at x (done_at w done y) a; stop = s }) (gapless_is w done y);
   most = m;
 }
+
+-- so far, as the loop that counts them knows it
+pub record DoneTo (w : ℕ) (done : List ℕ) (y x : ℕ) : Type 0 where
+  pub most : x ≤ w
+  pub all : all_below x (done_at w done y) ≡ true
+
+pub done_next : (w y x : ℕ) (done : List ℕ) → DoneTo w done y x → x < w → get_or done (y * w + x) 0 ≡ 1 → DoneTo w done y (x + 1)
+done_next w y x done d l e = record { most = omega arith; all = all_more x (done_at w done y) d.all (eq-eqb _ _ e) }
+
+pub done_stop : (w y x : ℕ) (done : List ℕ) → DoneTo w done y x → (get_or done (y * w + x) 0 ≡ 1 → ⊥) → RowCount w done y x
+done_stop w y x done d n = row_count w done y x d.most d.all (λ _. ne_eqb _ _ n)
+
+pub done_end : (w y x : ℕ) (done : List ℕ) → DoneTo w done y x → w ≤ x → RowCount w done y x
+done_end w y x done d l = row_count w done y x d.most d.all (λ h. absurd (omega arith))
+
+pub ruleset row_steps = (done_next, done_stop, done_end)
 
 -- a row lies in the map
 pub row_in : (w h y : ℕ) (done rows : List ℕ) → Fitting w h done rows → y < length rows → (w ≤ 120) × (y < 68) × (y * w + w ≤ length done)

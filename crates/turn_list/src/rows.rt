@@ -56,6 +56,7 @@ pub(crate) fn rows_agree(w: u32, h: u32, done: &[u8], rows: &[u32]) -> bool
 }
 
 // How many macroblocks of row y are done from the left without a gap.
+#[tactic(auto, using(crate::proofs::Leading::row_steps))]
 fn done_from_left(done: &[u8], w: usize, y: usize) -> usize
     requires { (w ≤ 120) × (y < 68) × (y * w + w ≤ length done.now) }
     ensures { RowCount w done.now y result }
