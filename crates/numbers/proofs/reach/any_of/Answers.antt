@@ -1,0 +1,27 @@
+-- `numbers::reach::any_of` meets its contract. Assumes nothing.
+use mathlib.Core.Path.{sym, ◌∙◌}
+use native.Mathlib.Omega.{arith}
+use lib.Dec.{ltb}
+use lib.Bits.{or_lt}
+use mir.Facts.{Fits-of_z}
+use mir.Syntax.{w32}
+use mir.Val.{SFits, of_z}
+use Rattle.laws.specs.Range.{at}
+use Rattle.laws.proofs.Tests.{all_start, all_after}
+use Rattle.numbers.specs.Numbers.{is_zero}
+use borrow.Author.Rules.{rules}
+use Rattle.numbers.proofs.Far.{or_below, zero_bits, bits_zero}
+use Rattle.numbers.proofs.reach.any_of.Goals as goal
+
+pub loop-i-init : goal.loop-i-init
+loop-i-init c = (omega arith, all_start _ _)
+
+pub loop-i-preserved : goal.loop-i-preserved
+loop-i-preserved c = let s = c.args.s.now in
+    let z = at s c.loop-i.i in
+    let f : SFits w32 z = search rules in
+    let l = or_lt 32 c.loop-i.any-bits (of_z w32 z) (omega arith) (Fits-of_z f).fits in (
+      omega arith,
+      bits_zero _ l ∙ or_below 0 c.loop-i.any-bits (of_z w32 z)
+          ∙ all_after (ltb c.loop-i.any-bits 1) _ _ c.loop-i.i (λ k. is_zero (at s k)) (sym (bits_zero c.loop-i.any-bits (omega arith)) ∙ c.loop-i.invariant.1) (zero_bits z f),
+    )

@@ -1,0 +1,30 @@
+-- `residual::reconstruct::put_four` meets its contract: four sums, one after the other. Assumes nothing.
+use Prim.Native.Nat.{ℕ, ◌+◌}
+use native.Mathlib.Omega.{arith}
+use lib.IntN.{pos, ◌+ℤ◌}
+use lib.ListN.{get_or, length-set}
+use Rattle.laws.specs.Range.{at}
+use Rattle.laws.proofs.Patches.{front_none, front_next}
+use Rattle.basics.specs.Clip.{Clip1}
+use Rattle.residual.proofs.reconstruct.put_four.Goals as goal
+
+pub bounds-row-1 : goal.bounds-row-1
+bounds-row-1 c = simp length-set (omega arith)
+
+pub bounds-row-2 : goal.bounds-row-2
+bounds-row-2 c = simp length-set (omega arith)
+
+pub bounds-row-3 : goal.bounds-row-3
+bounds-row-3 c = simp length-set (omega arith)
+
+pub returns : goal.returns
+returns c = let a = c.args in
+    let l = a.row.now in
+    let f : ℕ → ℕ = λ i. Clip1 (pos (get_or a.pred.now (a.p + i) 0) +ℤ at a.res.now (a.k + i)) in
+    front_next 3 4 f l (omega arith) (omega arith)
+    (front_next 2 3 f l (omega arith) (omega arith)
+    (front_next 1 2 f l (omega arith) (omega arith)
+    (front_next 0 1 f l (omega arith) (omega arith) (front_none f l) c.sum_at-a.ensures)
+    c.sum_at-b.ensures)
+    c.sum_at-c.ensures)
+    c.sum_at-d.ensures
