@@ -1,4 +1,6 @@
 // How a macroblock's square is cut into blocks, where these stand (clause 6.4.3) and which of their sides are there (clauses 6.4.11 and 6.4.12).
+#![tactic(auto)]
+
 ghost use Rattle.std.specs.Prelude.{◌≡◌, cond, ◌&&◌, ◌+◌, ◌-◌, ◌≤◌, ◌<◌, min, eqb, ltb, leb};
 ghost use Rattle.basics.specs.Nnz.{blk_idx};
 ghost use Rattle.maps.specs.Neighbours.{marks_of};

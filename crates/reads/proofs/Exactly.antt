@@ -18,6 +18,7 @@ use Rattle.reads.specs.Groups.{Group, Samples, group_size, near_by, named_nxn, n
 use Rattle.reads.specs.Groups.Group.{above, left, corner, above_right}
 use Rattle.reads.specs.Exactly.{Predictor, luma4x4, luma8x8, luma16x16, chroma8x8, permits, predicted, SameIn, Minds, Exactly}
 use Rattle.reads.proofs.Computed.{block, Alone, Kept, dark, lit, same, shows, Shown, alone_4x4, alone_8x8, alone_16x16, alone_chroma, kept_4x4, kept_8x8, kept_16x16, kept_chroma, shown_4x4, shown_8x8, shown_16x16, shown_chroma}
+use Rattle.reads.proofs.Refused.{none_8x8}
 use Rattle.reads.proofs.Tables.{by_group, at_mode, at_group, number, another}
 
 -- ---- samples that are the same in the groups of a set make neighbourhoods that agree where just these are marked
@@ -150,12 +151,6 @@ few_chroma a l c m ok = go (dec_lt m 4)
     go : Dec (m < 4) → m < 4
     go (yes h) = h
     go (no h) = absurd (not_both ok (rw (ne_eqb m 0 (omega arith), ne_eqb m 1 (omega arith), ne_eqb m 2 (omega arith), ne_eqb m 3 (omega arith))))
-
-none_8x8 : (marks : (Group → Bool)) (m : ℕ) (k : Group) → permits luma8x8 marks m ≡ false → luma8x8.reads marks m k ≡ false
-none_8x8 marks m above e = ap (λ b. b && named_nxn m above && marks above) e
-none_8x8 marks m left e = ap (λ b. b && named_nxn m left && marks left) e
-none_8x8 marks m corner e = ap (λ b. ((b && named_nxn m above && marks above) || (b && named_nxn m left && marks left)) && marks corner) e
-none_8x8 marks m above_right e = ap (λ b. (b && named_nxn m above && marks above) && not (eqb m 6) && marks above_right) e
 
 pub unread_4x4 : Unread luma4x4 8
 unread_4x4 m a l c p q ok w x y hx hy = promise_4x4.absent_unread m a l c p q x y ok hx hy w

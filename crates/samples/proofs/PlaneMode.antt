@@ -1,5 +1,5 @@
 -- Plane prediction: its slopes over a line, and its samples. Assumes nothing.
-use mathlib.Core.Path.{◌≡◌, sym, ap, ap₂, ◌∙◌, subst}
+use mathlib.Core.Path.{◌≡◌, ap, ap₂, ◌∙◌}
 use mathlib.Core.List.{List}
 use Prim.Native.Nat.{ℕ, ◌+◌, ◌-◌, ◌*◌, ◌≤◌, ◌<◌}
 use native.Mathlib.Omega.{arith}
@@ -8,16 +8,20 @@ use borrow.Author.Tests.{ne_eqb}
 use lib.ListN.{get_or, replicate}
 use mir.Syntax.{w32}
 use mir.Val.{to_z, of_z}
-use mir.ValLaws.{to_z_pos, to_z-of_z}
+use mir.ValLaws.{to_z_pos}
 use Rattle.laws.specs.Range.{Within}
 use Rattle.laws.specs.Table.{sum_z, onto}
-use Rattle.laws.proofs.Ints.{within_fits, within_back, back}
+use Rattle.laws.proofs.Ints.{abs_add, within_back, back}
 use Rattle.laws.proofs.Ontos.{onto_at}
-use Rattle.laws.proofs.Sums.{sum_z_same}
+use Rattle.laws.proofs.Sums.{sum_z_same, sum_z_more}
 use Rattle.basics.specs.Near.{Near, near}
 use Rattle.samples.specs.PlaneMode.{slope, gradient, ramp, plane}
 use Rattle.samples.specs.inner.Line.{line}
 use Rattle.samples.specs.inner.Plane.{Sloped}
+
+-- what is read back from the bits of a number
+abbrev pub rd : ℤ → ℤ
+rd z = to_z w32 (of_z w32 z)
 
 -- one term of a slope
 abbrev pub term_of : ℕ → (ℕ → ℕ) → ℕ → ℤ
@@ -27,14 +31,22 @@ term_of m s i = pos (i + 1) *ℤ (pos (s (m + 1 + i)) -ℤ pos (s (m - 1 - i)))
 pub term_is : (m : ℕ) (s : ℕ → ℕ) (i : ℕ) (r : ℤ) → i < 8 → r ≡ to_z w32 (i + 1) *ℤ (pos (s (m + 1 + i)) -ℤ pos (s (m - 1 - i))) → r ≡ term_of m s i
 term_is m s i r h e = e ∙ rw (to_z_pos w32 (i + 1) (omega arith))
 
--- the bits of the whole sum are the slope's
-pub slope_is : (m : ℕ) (s : ℕ → ℕ) (h : ℕ) → m ≤ 8 → h ≡ of_z w32 (sum_z m (term_of m s)) → nat_abs (sum_z m (term_of m s)) ≤ 4080 * m
-    → (to_z w32 h ≡ slope m s) × Within 32640 (to_z w32 h)
+-- the whole sum is the slope
+pub slope_is : (m : ℕ) (s : ℕ → ℕ) (h : ℤ) → m ≤ 8 → h ≡ sum_z m (term_of m s) → nat_abs (sum_z m (term_of m s)) ≤ 4080 * m
+    → (h ≡ slope m s) × Within 32640 h
 unfolding slope
-slope_is m s h small e b =
-    let w : Within 32640 (slope m s) = record { within = omega arith } in
-    let t : to_z w32 h ≡ slope m s = ap (to_z w32) e ∙ to_z-of_z w32 (slope m s) (within_fits (record { within = omega arith })) in
-    (t, subst (Within 32640) (sym t) w)
+slope_is m s h small e b = (e, rw e (record { within = omega arith }))
+
+-- one more term, as the machine adds it
+pub slope_more : (m : ℕ) (s : ℕ → ℕ) (i : ℕ) (h t : ℤ) → i < 8 → h ≡ sum_z i (term_of m s) → nat_abs (sum_z i (term_of m s)) ≤ 4080 * i
+    → (t ≡ to_z w32 (i + 1) *ℤ (pos (s (m + 1 + i)) -ℤ pos (s (m - 1 - i)))) × Within 4080 t
+    → (rd (h +ℤ rd t) ≡ sum_z (i + 1) (term_of m s)) × (nat_abs (sum_z (i + 1) (term_of m s)) ≤ 4080 * (i + 1))
+slope_more m s i h t l e b (te, w) =
+    let n : sum_z i (term_of m s) +ℤ t ≡ sum_z (i + 1) (term_of m s) = sum_z_more i (term_of m s) t (term_is m s i t l te) in
+    let v : Within 36720 (sum_z (i + 1) (term_of m s)) = rw (← n) (record { within = omega (arith, abs_add (sum_z i (term_of m s)) t, w.within) }) in (
+      ap rd (ap (λ (z : ℤ). h +ℤ z) (back 4080 w tt) ∙ ap (λ (z : ℤ). z +ℤ t) e ∙ n) ∙ back 36720 v tt,
+      rw (← n) (omega (arith, abs_add (sum_z i (term_of m s)) t, w.within)),
+    )
 
 -- a slope reads its 2m + 1 samples, and a plane those of its two lines
 slope_same : (m : ℕ) (s t : ℕ → ℕ) → 1 ≤ m → ((i : ℕ) → i ≤ 2 * m → s i ≡ t i) → slope m s ≡ slope m t
@@ -46,10 +58,6 @@ pub plane_same : (m k : ℕ) (p q : Near) → 1 ≤ m → ((i : ℕ) → i ≤ 2
 unfolding plane
 plane_same m k p q one above left =
     rw (left (2 * m) (omega arith), above (2 * m) (omega arith), slope_same m (λ i. p i 0) (λ i. q i 0) one above, slope_same m (p 0) (q 0) one left)
-
--- what is read back from the bits of a number
-abbrev pub rd : ℤ → ℤ
-rd z = to_z w32 (of_z w32 z)
 
 -- a, b and c as the machine computes them, from the two lines, are the neighbourhood's
 module _ (m k corner : ℕ) (one : 1 ≤ m) where
