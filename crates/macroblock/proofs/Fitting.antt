@@ -2,7 +2,7 @@
 use mathlib.Core.Path.{◌≡◌}
 use mathlib.Core.Bool.{Bool, true, false, cond}
 use Prim.Native.Nat.{ℕ, suc, ◌+◌, ◌*◌, ◌-◌, ◌<◌, ◌≤◌, min}
-use native.Mathlib.Nat.{mul-le-mul_right, suc-mul, mul_pos, le-mul_of_pos_right}
+use native.Mathlib.Nat.{mul-le-mul_right, suc-mul, mul-pos, le-mul_of_pos_right}
 use native.Mathlib.Omega.{arith}
 use Rattle.macroblock.specs.declared.place.Place.{Place}
 use Rattle.macroblock.specs.inner.Blocks.{BlockIn, Low}
@@ -28,7 +28,7 @@ pub record InAbove (q : ℕ) (p : Place) (n : ℕ) : Type 0 where
 
 pub in_above : {q n : ℕ} {p : Place} → BlockIn q p n → 0 < p.row → InAbove q p n
 in_above {q} {n} {p} F h =
-    let b : 0 < p.row * q = mul_pos h F.some in
+    let b : 0 < p.row * q = mul-pos h F.some in
     let e : suc (p.row * q - 1) * p.stride ≡ (p.row * q - 1) * p.stride + p.stride = suc-mul (p.row * q - 1) p.stride in
     let f : suc (p.row * q - 1) * p.stride ≤ (p.row * q + (q - 1)) * p.stride = mul-le-mul_right p.stride (omega arith) in
     let g = in_row 0 F F.some in

@@ -3,7 +3,7 @@ use mathlib.Core.Path.{◌≡◌, sym, ap, subst, ◌∙◌}
 use mathlib.Core.Logic.{◌⊎◌, inl, inr}
 use mathlib.Core.Bool.{Bool}
 use Prim.Native.Nat.{ℕ, zero, suc, ◌+◌, ◌*◌, ◌-◌, ◌/◌, ◌<◌, ◌≤◌}
-use native.Mathlib.Nat.{suc-mul, mul-le-mul_right, not-suc-le-zero, lt-div-mul-add, div-div-eq-div-mul, mul_pos}
+use native.Mathlib.Nat.{suc-mul, mul-le-mul_right, not-suc-le-zero, lt-div-mul-add, div-div-eq-div-mul, mul-pos}
 use native.Mathlib.Omega.{arith}
 use lib.Arith.{digits_div, digits_mod}
 use lib.Dec.{T}
@@ -63,7 +63,7 @@ after m z i hm e = ap (λ n. n / m) (let f : z * m + i - 1 ≡ (z + 1) * m + 0 =
 in_width : (q m s n b z : ℕ) → 0 < q → 0 < m → z * (q * m) + q * m ≤ s → n / q ≡ b → b / m ≡ z → n < s
 in_width q m s n b z hq hm hs e f =
     let g : n / (q * m) ≡ z = sym (div-div-eq-div-mul n q m) ∙ ap (λ n. n / m) e ∙ f in
-    let l : n < z * (q * m) + q * m = subst (λ w. n < w * (q * m) + q * m) g (lt-div-mul-add (mul_pos hq hm)) in
+    let l : n < z * (q * m) + q * m = subst (λ w. n < w * (q * m) + q * m) g (lt-div-mul-add (mul-pos hq hm)) in
     omega arith
 
 -- so does the macroblock before
@@ -105,19 +105,19 @@ module _ (q m s x y : ℕ) (marks : Side → Bool) (k : ℕ) (some : 0 < q) (S :
     held_at = by_holder m k i j marks
         (λ zi zj t.
         let h = N.on_corner (T_true (marks D) t) in
-        let p₁ = mul_pos h.0 S.some in let p₂ = mul_pos h.1 S.some in
+        let p₁ = mul-pos h.0 S.some in let p₂ = mul-pos h.1 S.some in
         beyond D t (omega arith) (omega arith) (narrower x (q * m) s wide) (before m y j S.some h.0 zj) (before m x i S.some h.1 zi))
         (λ pi li zj t.
         let h = N.on_above (T_true (marks B) t) in
-        let p₁ = mul_pos h S.some in
+        let p₁ = mul-pos h S.some in
         beyond B t (omega arith) (omega arith) wide (before m y j S.some h zj) (inside m x i pi li))
         (λ gi zj t.
         let h = N.on_above_right (T_true (marks C) t) in
-        let p₁ = mul_pos h.0 S.some in
+        let p₁ = mul-pos h.0 S.some in
         beyond C t (omega arith) (omega arith) (omega (arith, h.1)) (before m y j S.some h.0 zj) (after m x i S.some (omega arith)))
         (λ zi pj t.
         let h = N.on_left (T_true (marks A) t) in
-        let p₂ = mul_pos h S.some in
+        let p₂ = mul-pos h S.some in
         beyond A t (omega arith) (omega arith) (narrower x (q * m) s wide) (inside m y j pj hj) (before m x i S.some h zi))
         earlier
 

@@ -2,7 +2,7 @@
 use mathlib.Core.Path.{◌≡◌, refl, sym, ap, ◌∙◌}
 use mathlib.Core.Bool.{Bool, true, false, cond, ◌&&◌}
 use Prim.Native.Nat.{ℕ, suc, ◌+◌, ◌*◌, ◌-◌, ◌<◌, ◌≤◌}
-use native.Mathlib.Nat.{mul-le-mul_left, mul-le-mul_right, add-mul, suc-mul, mul_comm, mul_assoc, mul_pos}
+use native.Mathlib.Nat.{mul-le-mul_left, mul-le-mul_right, add-mul, suc-mul, mul_comm, mul_assoc, mul-pos}
 use native.Mathlib.Omega.{arith}
 use borrow.Author.Tests.{eqb-false, leb-true}
 use lib.Dec.{eqb, ltb, leb}
@@ -50,10 +50,10 @@ module _ (q m k : ℕ) {n : ℕ} {p : Place} (marks : Side → Bool) (S : Scan m
   N = T.beside
 
   row_pos : 0 < p.row → 0 < p.row * m + W
-  row_pos h = omega (arith, mul_pos h S.some)
+  row_pos h = omega (arith, mul-pos h S.some)
 
   column_pos : 0 < p.column → 0 < p.column * m + U
-  column_pos h = omega (arith, mul_pos h S.some)
+  column_pos h = omega (arith, mul-pos h S.some)
 
   on_left : cond (eqb U 0) (marks A) true ≡ true → 0 < p.column * m + U
   on_left = by (eqb U 0) (marks A) true (λ t e. column_pos (N.on_left e)) (λ t e. let z : U ≡ 0 → ⊥ = eqb-false U 0 t in omega arith)

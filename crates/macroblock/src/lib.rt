@@ -1,4 +1,6 @@
 // One macroblock in its three planes, from a record and the marks of its four neighbours (clauses 8.3 and 8.5).
+#![tactic(auto)]
+
 ghost use Rattle.std.specs.Prelude.{◌≡◌, true, [], ◌∷◌, length};
 ghost use Rattle.laws.specs.Answer.{answer, written};
 ghost use Rattle.maps.specs.Neighbours.{marks_of};
@@ -29,7 +31,7 @@ pub struct Record {
 }
 
 // How far apart the rows of each plane stand.
-#[derive(Drop)]
+#[derive(Clone, Copy)]
 pub struct Strides {
     pub luma: usize,
     pub cb: usize,

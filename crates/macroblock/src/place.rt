@@ -9,7 +9,7 @@ use cut::{scan_x, scan_y};
 use maps::neighbours::Marks;
 
 // Where a block stands: its row and its column among the blocks of its side, in a plane with that stride.
-#[derive(Drop)]
+#[derive(Clone, Copy)]
 pub(crate) struct Place {
     pub stride: usize,
     pub row: usize,
@@ -17,7 +17,7 @@ pub(crate) struct Place {
 }
 
 // Where a macroblock stands, in columns and rows of macroblocks and in planes with these strides, and which of its neighbours are there.
-#[derive(Drop)]
+#[derive(Clone, Copy)]
 pub(crate) struct Spot {
     pub x: usize,
     pub y: usize,

@@ -4,7 +4,7 @@ use mathlib.Core.Path.{◌≡◌, refl, sym, ap, ap₂, ◌∙◌}
 use mathlib.Core.Bool.{Bool}
 use mathlib.Core.List.{List}
 use Prim.Native.Nat.{ℕ, zero, suc, ◌+◌, ◌*◌, ◌-◌, ◌/◌, ◌%◌, ◌<◌, ◌≤◌}
-use native.Mathlib.Nat.{div-add-mod', add-mul, suc-mul, mul_comm, mul_assoc, mul_pos, mul-le-mul_right, le_of_suc-le, div-lt_iff_lt-mul}
+use native.Mathlib.Nat.{div-add-mod', add-mul, suc-mul, mul_comm, mul_assoc, mul-pos, mul-le-mul_right, le_of_suc-le, div-lt_iff_lt-mul}
 use native.Mathlib.Omega.{arith}
 use lib.Arith.{digits_div, digits_mod}
 use lib.Dec.{T}
@@ -30,7 +30,7 @@ use Rattle.moved.specs.Moved.{Site, touching}
 line_before : (z w n : ℕ) → 0 < z → 0 < w → n ≡ z * w - 1 → ¬ (n / w ≡ z)
 line_before z w n hz hw e f =
     let g : z * w + n % w ≡ n = ap (λ m. m * w + n % w) (sym f) ∙ div-add-mod' n w in
-    omega (arith, mul_pos hz hw)
+    omega (arith, mul-pos hz hw)
 
 -- the column and the row of sample t of a side, in the block that holds it
 abbrev pub column_in : ℕ → Side → ℕ → ℕ

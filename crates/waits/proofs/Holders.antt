@@ -1,5 +1,5 @@
 -- Who holds what a block reads, and sets of neighbours by their four marks. Assumes nothing.
-use mathlib.Core.Path.{◌≡◌, refl, sym, ap, ◌∙◌}
+use mathlib.Core.Path.{◌≡◌, refl, sym, ap, ◌∙◌, subst}
 use mathlib.Core.Bool.{Bool, true, false, cond, not, ◌&&◌, ◌||◌}
 use mathlib.Core.List.{List, [], ◌∷◌}
 use Prim.Native.Nat.{ℕ, ◌+◌, ◌-◌, ◌<◌}
@@ -24,7 +24,10 @@ use Rattle.waits.specs.Waits.{holder_of, only, is_holder, some_group, holds_one}
 use Rattle.waits.specs.inner.Holders.{holders_at}
 
 pub only_self : (d : Side) → only d d ≡ true
-only_self d = elim d [ A ↦ refl | B ↦ refl | C ↦ refl | D ↦ refl ]
+only_self A = refl
+only_self B = refl
+only_self C = refl
+only_self D = refl
 
 no : {P : Type 0} → ◌≡◌ {A = Bool} false true → P
 no e = absurd (not_both {b = false} e refl)
@@ -97,13 +100,34 @@ neighbour_at i j n D = j && i
 
 neighbour_at_lem : (i j n e : Bool) (d : Side)
     → is_holder d (cond j (cond i (other D) (cond n (other B) (other C))) (cond i (other A) (cond (n && e) own nobody))) ≡ neighbour_at i j n d
-neighbour_at_lem true true n e d = elim d [ A ↦ refl | B ↦ refl | C ↦ refl | D ↦ refl ]
-neighbour_at_lem true false n e d = elim d [ A ↦ refl | B ↦ refl | C ↦ refl | D ↦ refl ]
-neighbour_at_lem false true true e d = elim d [ A ↦ refl | B ↦ refl | C ↦ refl | D ↦ refl ]
-neighbour_at_lem false true false e d = elim d [ A ↦ refl | B ↦ refl | C ↦ refl | D ↦ refl ]
-neighbour_at_lem false false true true d = elim d [ A ↦ refl | B ↦ refl | C ↦ refl | D ↦ refl ]
-neighbour_at_lem false false true false d = elim d [ A ↦ refl | B ↦ refl | C ↦ refl | D ↦ refl ]
-neighbour_at_lem false false false e d = elim d [ A ↦ refl | B ↦ refl | C ↦ refl | D ↦ refl ]
+neighbour_at_lem true true n e A = refl
+neighbour_at_lem true true n e B = refl
+neighbour_at_lem true true n e C = refl
+neighbour_at_lem true true n e D = refl
+neighbour_at_lem true false n e A = refl
+neighbour_at_lem true false n e B = refl
+neighbour_at_lem true false n e C = refl
+neighbour_at_lem true false n e D = refl
+neighbour_at_lem false true true e A = refl
+neighbour_at_lem false true true e B = refl
+neighbour_at_lem false true true e C = refl
+neighbour_at_lem false true true e D = refl
+neighbour_at_lem false true false e A = refl
+neighbour_at_lem false true false e B = refl
+neighbour_at_lem false true false e C = refl
+neighbour_at_lem false true false e D = refl
+neighbour_at_lem false false true true A = refl
+neighbour_at_lem false false true true B = refl
+neighbour_at_lem false false true true C = refl
+neighbour_at_lem false false true true D = refl
+neighbour_at_lem false false true false A = refl
+neighbour_at_lem false false true false B = refl
+neighbour_at_lem false false true false C = refl
+neighbour_at_lem false false true false D = refl
+neighbour_at_lem false false false e A = refl
+neighbour_at_lem false false false e B = refl
+neighbour_at_lem false false false e C = refl
+neighbour_at_lem false false false e D = refl
 
 neighbour_is : (m k i j : ℕ) (d : Side) → is_holder d (holder_at m k i j) ≡ neighbour_at (eqb i 0) (eqb j 0) (leb i m) d
 neighbour_is m k i j d = neighbour_at_lem (eqb i 0) (eqb j 0) (leb i m) (ltb (blk_idx (i - 1) (j - 1)) k) d
@@ -119,7 +143,10 @@ abbrev by_side : {A : Type 0} → (Side → A) → List A
 by_side f = f A ∷ f B ∷ f C ∷ f D ∷ []
 
 at_side : {A : Type 0} (f g : Side → A) → by_side f ≡ by_side g → (d : Side) → f d ≡ g d
-at_side f g e d = elim d [ A ↦ ap (λ l. get_or l 0 (f A)) e | B ↦ ap (λ l. get_or l 1 (f A)) e | C ↦ ap (λ l. get_or l 2 (f A)) e | D ↦ ap (λ l. get_or l 3 (f A)) e ]
+at_side f g e A = ap (λ l. get_or l 0 (f A)) e
+at_side f g e B = ap (λ l. get_or l 1 (f A)) e
+at_side f g e C = ap (λ l. get_or l 2 (f A)) e
+at_side f g e D = ap (λ l. get_or l 3 (f A)) e
 
 abbrev said : Bool → Bool → Bool → Side → (Group → Bool) → Bool
 said u v r d read = holders_at u v r read d
@@ -137,6 +164,13 @@ said_due u v r d =
     (at_test (λ r. by_side (λ d. by_marks (said u v r d))) (λ r. by_side (λ d. by_marks (due u v r d)))
     (at_test (λ v. by_test (λ r. by_side (λ d. by_marks (said u v r d)))) (λ v. by_test (λ r. by_side (λ d. by_marks (due u v r d))))
     (at_test (λ u. by_test (λ v. by_test (λ r. by_side (λ d. by_marks (said u v r d))))) (λ u. by_test (λ v. by_test (λ r. by_side (λ d. by_marks (due u v r d))))) computed u) v) r) d)
+
+-- in no first column and no first row, no neighbour holds anything
+no_holder : (r : Bool) (read : Group → Bool) (d : Side) → false ≡ holders_at false false r read d
+no_holder r read A = refl
+no_holder r read B = refl
+no_holder r read C = refl
+no_holder r read D = refl
 
 module _ (m k : ℕ) (b : BlockOf m k) where
   abbrev u : ℕ
@@ -185,4 +219,6 @@ module _ (m k : ℕ) (b : BlockOf m k) where
   inside_none read e f = (λ i d. none d i) ∙ holders_are read
     where
       none : (d : Side) → false ≡ holders_at (eqb u 0) (eqb v 0) (eqb (u + 1) m) read d
-      none d = rw (e, f) (elim d [ A ↦ refl | B ↦ refl | C ↦ refl | D ↦ refl ])
+      none d =
+          subst (λ (x : Bool). false ≡ holders_at x (eqb v 0) (eqb (u + 1) m) read d) (sym e)
+          (subst (λ (y : Bool). false ≡ holders_at false y (eqb (u + 1) m) read d) (sym f) (no_holder (eqb (u + 1) m) read d))

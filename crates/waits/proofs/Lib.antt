@@ -3,3 +3,4 @@
 mod Holders
 pub mod Narrow
 mod NarrowSquare
+mod Reading

@@ -1,4 +1,6 @@
 // The neighbour macroblocks that a record waits for: those that hold samples which one of its blocks reads.
+#![tactic(auto)]
+
 ghost use Rattle.std.specs.Prelude.{◌≡◌, false, ◌||◌, List, ℤ, get_or};
 ghost use Rattle.maps.specs.Done.{all_settled};
 ghost use Rattle.maps.specs.Neighbours.{marks_of};

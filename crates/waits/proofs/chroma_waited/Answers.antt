@@ -1,0 +1,15 @@
+-- `waits::chroma_waited` meets its contract: the square is one block. Assumes nothing.
+use mathlib.Core.Path.{ap, ◌∙◌}
+use lib.Dec.{lit≤}
+use Rattle.laws.specs.Table.{some_below}
+use Rattle.cut.proofs.Scan.{scan_1}
+use Rattle.reads.specs.Groups.{groups_of, reads_chroma}
+use Rattle.waits.specs.Waits.{holds_one}
+use Rattle.waits.proofs.chroma_waited.Goals as goal
+
+pub holders_of-requires : goal.holders_of-requires
+holders_of-requires c = record { scan = scan_1; few = lit≤ tt; one = lit≤ tt }
+
+pub returns : goal.returns
+unfolding some_below
+returns c = c.holders_of.ensures ∙ ap (holds_one 1 0) (c.groups_chroma.ensures ∙ ap (λ z. reads_chroma (groups_of z) c.args.mode) c.sides_at.ensures)
