@@ -18,8 +18,9 @@ use Rattle.calls.specs.Rebuild.{Call, Lent, here, Acceptable, answer_to}
 use Rattle.calls.specs.Run.{Picture, total_of, offer, AllAcceptable, RestAcceptable, Waits, Awaits, Lends, Planes, decoded, Location, sample_at, Region, InPicture, driver, started, run, Own, rest, Event, passed, calls_of, StartsRefused}
 use Rattle.calls.specs.Run.Event.{offers, starts}
 use Rattle.calls.specs.AnyOrder.{AnyOrder}
+use Rattle.calls.proofs.Available.{waits_available}
 use Rattle.calls.proofs.OnePicture.{view, fair, spares, step, offer_here, Depends, carries, bytes, Good, begins, planes_kept, awaits_smaller, laws, told, acceptable}
-use Rattle.calls.proofs.Rules.{waits_available, not_ready_when, never_first}
+use Rattle.calls.proofs.Rules.{not_ready_when, never_first}
 
 -- starts that are refused leave everything
 same_run : (es : List Event) (s : Lent) → StartsRefused es s → passed es s ≡ play driver (calls_of es) s

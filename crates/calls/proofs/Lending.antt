@@ -52,7 +52,7 @@ module _ (w h : ℕ) (stride bytes : Plane → ℕ) (done slices accepted : ℕ)
       let e₂ = and_both (l && b) r e₃.0 in
       let e₁ = and_both l b e₂.0 in
       record {
-        planes = λ p. elim p [ luma ↦ plane_is 16 w h (stride luma) (bytes luma) e₁.0 | cb ↦ plane_is 8 w h (stride cb) (bytes cb) e₁.1 | cr ↦ plane_is 8 w h (stride cr) (bytes cr) e₂.1 ];
+        planes = elim [ luma ↦ plane_is 16 w h (stride luma) (bytes luma) e₁.0 | cb ↦ plane_is 8 w h (stride cb) (bytes cb) e₁.1 | cr ↦ plane_is 8 w h (stride cr) (bytes cr) e₂.1 ];
         done_long = eqb-true done (total w h) e₃.1;
         slices_long = eqb-true slices (total w h) e₄.1;
         few = leb-true accepted (total w h) e₅.1;

@@ -1,5 +1,6 @@
 -- The laws about this crate's definitions: demand 3 is `any_order`.
 pub mod AnyOrder
+pub mod Available
 pub mod Lending
 pub mod OnePicture
 pub mod Rebuilt

@@ -21,9 +21,10 @@ use Rattle.macroblock.specs.Rules.{lists_good, permitted}
 use Rattle.calls.specs.Planes.{Plane, side}
 use Rattle.calls.specs.Rebuild.{Call, Lent, here, marks, waits_for, record_rules, Acceptable, answer_to, square_in}
 use Rattle.calls.specs.Run.{Picture, total_of, offer, Waits, Awaits, Lends, Planes, Location, sample_at, Region, InPicture, driver, started, Own}
+use Rattle.calls.proofs.Available.{waits_available}
 use Rattle.calls.proofs.Lending.{PlaneRoom, plane_is}
 use Rattle.calls.proofs.Regions.{apart, tell, at_address}
-use Rattle.calls.proofs.Rules.{Passed, passed_is, passed_yes, passed_0, first_0, permitted_0, ready_0, by_record, waits_available}
+use Rattle.calls.proofs.Rules.{Passed, passed_is, passed_yes, passed_0, first_0, permitted_0, ready_0, by_record}
 use Rattle.calls.proofs.Squares.{depends_on, depends_marked, square_local, square_depends}
 
 -- ---- the driver

@@ -18,14 +18,10 @@ use Rattle.maps.proofs.Beside.{available_at}
 use Rattle.maps.proofs.Sizes.{size_is, size_yes, place_is, place_yes}
 use Rattle.maps.proofs.Waiting.{settled_is, settled_no}
 use Rattle.macroblock.specs.Rules.{lists_good, known, permitted, known_rule, permitted_rule, numbers_rule, early_rules, wait_rule}
-use Rattle.waits.proofs.Narrow.{waits_marked}
 use Rattle.calls.specs.Planes.{room_ok}
 use Rattle.calls.specs.Rebuild.{Call, Lent, here, marks, waits_for, neighbours_rule, rules, answer_to, open_rules, first_rules, first, earlier, record_rules}
+use Rattle.calls.proofs.Available.{waits_available}
 use Rattle.calls.proofs.Lending.{LentRoom, room_is, room_yes}
-
--- a neighbour that is waited for is available
-pub waits_available : (c : Call) (k : Side) → waits_for c k ≡ true → marks c k ≡ true
-waits_available c k e = waits_marked (marks c) c.mb k e
 
 module _ (c : Call) (s : Lent) where
   -- what the first rules tell, where `ok` says that the lists are as long as they should be

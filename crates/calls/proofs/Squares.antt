@@ -24,8 +24,8 @@ use Rattle.waits.proofs.Narrow.{narrow}
 use Rattle.calls.specs.Planes.{Plane, side}
 use Rattle.calls.specs.Planes.Plane.{luma, cb, cr}
 use Rattle.calls.specs.Rebuild.{Call, marks, waits_for, square_in}
+use Rattle.calls.proofs.Available.{waits_available}
 use Rattle.calls.proofs.Lending.{PlaneRoom}
-use Rattle.calls.proofs.Rules.{waits_available}
 
 module _ (q w h s n x y : ℕ) (q-pos : 0 < q) (fits : PlaneRoom q w h s n) (place : Stands w h x y) where
   below : suc y * q ≤ h * q
@@ -105,7 +105,7 @@ module _ (c : Call) (bytes : Plane → ℕ) (fits : (p : Plane) → PlaneRoom (s
 
   -- with a permitted record it depends on those only that it waits for
   square_narrow : permitted (marks c) c.mb ≡ true → (p : Plane) → Local (bytes p) (side p) (c.stride p) c.x c.y (waits_for c) (square_in c p)
-  square_narrow ok = λ p. elim p [ luma ↦ w.luma | cb ↦ w.cb | cr ↦ w.cr ]
+  square_narrow ok = elim [ luma ↦ w.luma | cb ↦ w.cb | cr ↦ w.cr ]
     where
       w : Narrow c.x c.y (bytes luma) (bytes cb) (bytes cr) strides (marks c) c.mb
       w = narrow c.x c.y (bytes luma) (bytes cb) (bytes cr) strides (marks c) c.mb rooms_hold ok

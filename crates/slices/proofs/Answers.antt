@@ -25,9 +25,9 @@ use Rattle.calls.specs.Planes.{Plane, side, plane_ok, room_ok}
 use Rattle.calls.specs.Planes.Plane.{luma, cb, cr}
 use Rattle.calls.specs.Rebuild.{Call, Lent, here, marks, waits_for, rules, answer_to, rebuilt}
 use Rattle.calls.specs.Run.{Picture, driver}
+use Rattle.calls.proofs.Available.{waits_available}
 use Rattle.calls.proofs.Lending.{LentRoom, room_is}
 use Rattle.calls.proofs.OnePicture.{accepted_passed}
-use Rattle.calls.proofs.Rules.{waits_available}
 use Rattle.slices.specs.Answers.{SameSlice, Foreign, calls_in, answers_in, OfPicture, Answers}
 use Rattle.slices.proofs.Leaves.{by_answer, leaves, keeps_bytes, keeps_samples, keeps_long, keeps_mark, mark_here, few_before, few_after}
 

@@ -30,9 +30,9 @@ use Rattle.calls.specs.Planes.Plane.{luma, cb, cr}
 use Rattle.calls.specs.Rebuild.{Call, Lent, here, marks, Acceptable, answer_to, square_in}
 use Rattle.calls.specs.Run.{Picture, total_of, offer, Awaits, Lends, Planes, decoded, sample_at, Region, driver, started, run, Own}
 use Rattle.calls.proofs.AnyOrder.{any_order}
+use Rattle.calls.proofs.Available.{waits_available}
 use Rattle.calls.proofs.OnePicture.{fair, spares, offer_here, bytes, begins, planes_kept, stands, acceptable}
 use Rattle.calls.proofs.Regions.{apart}
-use Rattle.calls.proofs.Rules.{waits_available}
 use Rattle.calls.proofs.Squares.{side_pos}
 use Rattle.slices.specs.LostSlice.{InSlice, ShareSlice, SameSamples, LostSlice, OwnIn, Elsewhere, FirstIn, AmongOthers}
 use Rattle.slices.proofs.Answers.{reads_own}
