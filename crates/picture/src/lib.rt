@@ -1,4 +1,6 @@
 // The picture: macroblocks offered in any order, over planes, maps and a progress record that are lent.
+#![tactic(auto)]
+
 ghost use Rattle.std.specs.Prelude.{◌≡◌};
 ghost use Rattle.macroblock.specs.Kinds.{record_of};
 ghost use Rattle.macroblock.specs.Rules.{lists_good};
