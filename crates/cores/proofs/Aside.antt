@@ -10,14 +10,14 @@ use Rattle.laws.proofs.Tests.{and_left, and_right, and_of, implied_of}
 use Rattle.maps.specs.Neighbours.{Side}
 use Rattle.maps.specs.Neighbours.Side.{A, B, C, D}
 use Rattle.macroblock.specs.Kinds.{luma_square, cb_square, cr_square}
-use Rattle.macroblock.specs.Rules.{room, rooms}
+use Rattle.macroblock.specs.Rules.{room, rooms, rebuild_answer}
 use Rattle.macroblock.specs.declared.Record.{Record}
 use Rattle.macroblock.specs.declared.Strides.{Strides}
 use Rattle.moved.specs.Moved.{Site, SameAround, HasRoom}
 use Rattle.moved.proofs.Moved.{moved}
 use Rattle.calls.specs.Planes.{Plane, three, side}
 use Rattle.calls.specs.Planes.Plane.{luma, cb, cr}
-use Rattle.halves.specs.Halves.{sample_of, block_by}
+use Rattle.halves.specs.Halves.{sample_of}
 use Rattle.halves.proofs.Samples.{block_is}
 use Rattle.cores.specs.inner.Aside.{small_site, block_at}
 use Rattle.cores.specs.inner.Rects.{put_rect}
@@ -47,6 +47,16 @@ small_strides = record { luma = 48; cb = 24; cr = 24 }
 
 pub small_rooms : (l b r : ℕ) (m : Side → Bool) → l ≡ 1536 → b ≡ 384 → r ≡ 384 → rooms 1 1 l b r small_strides m ≡ true
 small_rooms l b r m e f g = rw (e, f, g) (and_of (and_of (small_luma m) (small_chroma m)) (small_chroma m))
+
+pub there_is_room : {l b r : ℕ} (m : Side → Bool) (ready : Bool) (mb : Record) → l ≡ 1536 → b ≡ 384 → r ≡ 384
+    → rebuild_answer (rooms 1 1 l b r small_strides m) m ready mb ≡ rebuild_answer true m ready mb
+there_is_room m ready mb e f g = ap (λ t. rebuild_answer t m ready mb) (small_rooms _ _ _ m e f g)
+
+-- ---- plane by plane
+pub each : (P : Plane → Type 0) → P luma → P cb → P cr → (p : Plane) → P p
+each P l b r luma = l
+each P l b r cb = b
+each P l b r cr = r
 
 -- ---- three squares put into a block of 384, one after the other
 module _ (u : Plane → ℕ → ℕ → ℕ) (b₀ b₁ b₂ b₃ : List ℕ) (long : length b₀ ≡ 384)

@@ -109,29 +109,47 @@ module _ (q : ℕ) where
   pub small_is : {k : ℕ} → Half q → k ≡ 2 * q * wide → Small k
   small_is h e = record { two = omega (arith, mul_assoc 2 q wide); last = pred_mul q wide (half_some h) }
 
-  pub small_still : {k j : ℕ} → Small k → j ≡ k → Small j
-  small_still v e = record { two = e ∙ v.two; last = v.last }
+-- ---- the three together, from what `bring_around` requires
+pub record Known (q stride x y n k : ℕ) (m : Marks) : Type 0 where
+  pub lies : Lies q stride x y n
+  pub beside : Beside q stride x y n m
+  pub small : Small q k
+
+pub known : (q stride x y n k : ℕ) (m : Marks) → Half q × (k ≡ 2 * q * wide q) → room q n stride x y (marks_of m) ≡ true → Known q stride x y n k m
+known q stride x y n k m h e =
+    let f = found q stride x y n m h.0 e in record { lies = f.0; beside = f.1; small = small_is q h.0 h.1 }
 
 -- ---- what `bring` requires, side by side
 abbrev Brings : (q stride x y n k : ℕ) → Bool → (width height back off : ℕ) → Type 0
-Brings q stride x y n k mark width height back off =
-    (Width width × (width ≤ wide q) × RectIn width height off (wide q) k)
-    × (mark ≡ true → (back ≤ here q stride x y) × RectIn width height (here q stride x y - back) stride n)
+Brings q stride x y n k mark w h back off = record {
+  width : Width w × (w ≤ wide q) × RectIn w h off (wide q) k;
+  back_le_here : mark ≡ true → (back ≤ here q stride x y) × RectIn w h (here q stride x y - back) stride n;
+}
 
-module _ (q stride x y n k : ℕ) (m : Marks) (w : Lies q stride x y n) (b : Beside q stride x y n m) (v : Small q k) where
-  pub brings_a : Brings q stride x y n k m.a 1 q 1 (middle q - 1)
-  brings_a = ((inl refl, omega arith, record { inside = omega arith }), (λ t. let h = b.on_a t in (omega arith, record { inside = omega arith })))
+module _ {q stride x y n k : ℕ} {m : Marks} (w : Known q stride x y n k m) where
+  pub brings_a : {j : ℕ} → j ≡ k → Brings q stride x y n j m.a 1 q 1 (middle q - 1)
+  brings_a e = record {
+    width = (inl refl, omega arith, record { inside = omega arith });
+    back_le_here = λ t. let f = w.beside.on_a t in (omega arith, record { inside = omega arith });
+  }
 
-  pub brings_b : Half q → Brings q stride x y n k m.b q 1 stride (middle q - wide q)
-  brings_b h =
-      ((half_width h, omega arith, record { inside = omega arith }), (λ t. let h = b.on_b t in (omega arith, record { inside = omega arith })))
+  pub brings_b : {j : ℕ} → Half q → j ≡ k → Brings q stride x y n j m.b q 1 stride (middle q - wide q)
+  brings_b h e = record {
+    width = (half_width h, omega arith, record { inside = omega arith });
+    back_le_here = λ t. let f = w.beside.on_b t in (omega arith, record { inside = omega arith });
+  }
 
-  pub brings_c : Half q → Brings q stride x y n k m.c q 1 (stride - q) (middle q - wide q + q)
-  brings_c h =
-      ((half_width h, omega arith, record { inside = omega arith }), (λ t. let h = b.on_c t in (omega arith, record { inside = omega arith })))
+  pub brings_c : {j : ℕ} → Half q → j ≡ k → Brings q stride x y n j m.c q 1 (stride - q) (middle q - wide q + q)
+  brings_c h e = record {
+    width = (half_width h, omega arith, record { inside = omega arith });
+    back_le_here = λ t. let f = w.beside.on_c t in (omega arith, record { inside = omega arith });
+  }
 
-  pub brings_d : Brings q stride x y n k m.d 1 1 (stride + 1) (middle q - wide q - 1)
-  brings_d = ((inl refl, omega arith, record { inside = omega arith }), (λ t. let h = b.on_d t in (omega arith, record { inside = omega arith })))
+  pub brings_d : {j : ℕ} → j ≡ k → Brings q stride x y n j m.d 1 1 (stride + 1) (middle q - wide q - 1)
+  brings_d e = record {
+    width = (inl refl, omega arith, record { inside = omega arith });
+    back_le_here = λ t. let f = w.beside.on_d t in (omega arith, record { inside = omega arith });
+  }
 
 -- ---- a rectangle, brought where it is marked
 module _ (w h off s : ℕ) (u : ℕ → ℕ → ℕ) (m : Bool) (l l' : List ℕ) (e : l' ≡ put_rect_if m w h off s u l) where

@@ -1,6 +1,6 @@
 -- Rectangles of samples: rows of one, eight or sixteen, put one after the other, and what stands where afterwards. Assumes nothing.
 use mathlib.Core.Path.{◌≡◌, refl, sym, ap, ap₂, ◌∙◌}
-use mathlib.Core.Bool.{Bool, true, false, cond, ◌&&◌}
+use mathlib.Core.Bool.{Bool, true, false, ◌&&◌}
 use mathlib.Core.Logic.{inl, inr}
 use mathlib.Core.List.{List}
 use Prim.Native.Nat.{ℕ, ◌+◌, ◌*◌, ◌-◌, ◌/◌, ◌%◌, ◌<◌, ◌≤◌}
@@ -10,7 +10,7 @@ use native.Mathlib.Omega.{arith}
 use borrow.Author.Tests.{lt-ltb, le-ltb, le-leb, leb-true, ltb-true}
 use borrow.Rule.Slice.PartMut.{put_mid, mid_of}
 use lib.Arith.{digits_div, digits_mod}
-use lib.Dec.{T, ltb, leb, ltb→lt}
+use lib.Dec.{ltb, leb, ltb→lt}
 use lib.ListN.{length, get_or}
 use Rattle.laws.specs.Patch.{patch}
 use Rattle.laws.proofs.Patches.{length_patch, patch_other, patch_here, patch_grow, patch_same, put_patch, front, length_front}

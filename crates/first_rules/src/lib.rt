@@ -1,4 +1,6 @@
 // What a call for a macroblock is asked before anything of its record is looked at: the size, the memory that is lent, the place, and whether it is done.
+#![tactic(auto)]
+
 ghost use Rattle.std.specs.Prelude.{◌≡◌};
 ghost use Rattle.laws.specs.Answer.{answer};
 ghost use Rattle.macroblock.specs.declared.Record.{Record};

@@ -5,7 +5,7 @@ use Rattle.macroblock.specs.Kinds.{luma_square, cb_square, cr_square}
 use Rattle.macroblock.specs.declared.Record.{Record}
 use Rattle.macroblock.specs.declared.Strides.{Strides}
 use Rattle.moved.specs.Moved.{Site}
-use Rattle.calls.specs.Planes.{Plane, three, side}
+use Rattle.calls.specs.Planes.{three, side}
 use Rattle.halves.specs.Halves.{block_by}
 
 -- a small plane is three squares wide and two high, and the macroblock stands in the middle below
