@@ -1,7 +1,7 @@
 # make demo            rebuilds a sample picture out of order and writes build/demo/jiwarbend.png
-# make test            the gate: every proof, every must-fail edit and every program, from nothing
+# make test            the gate: every proof, every must-fail edit and every program; of a crate that has not changed rt keeps what it proved
 # make check           what a maintainer runs before a release beside the gate: the demo, everything from lib to diff below, and a short benchmark
-# make lib             build/lib/libjiwarbend.a, the proved library for the machine at hand (include/jiwarbend.h)
+# make lib             build/lib/libjiwarbend.a, the proved library for x86-64 (include/jiwarbend.h)
 # make symbols         the archive has the header's functions, no state, and needs nothing but memory copied and filled
 # make languages       in seconds and without the library: header, signatures, layout and examples of the other languages
 # make rust-test       the Rust crate's tests
@@ -12,7 +12,7 @@
 #
 # make bench           the port and the Rust side by side; writes build/bench/, with instructions where valgrind is installed
 # make bench-docs      the same, and the figures go into docs/BENCHMARK.md and README.md
-# make diff-x86-64     make diff against the x86-64 archive under an emulator, on a machine of another kind
+# make diff-x86-64     make diff under an emulator, on a machine of another kind that was brought the x86-64 archive
 # make oracle-list     the fixed list of the Rust's answers, made anew
 # make macroblock-list the fixed list of macroblocks that the Rust's routines rebuilt, made anew
 # make vector-list     the fixed list of blocks that others transformed, made anew
@@ -30,7 +30,7 @@ SECONDS ?= 60
 WORKERS ?= 4
 
 ARCHIVE = build/lib/libjiwarbend.a
-SOURCES = $(shell find crates -name '*.rt' -o -name '*.antt') crates.txt
+SOURCES = $(shell find crates -name out -prune -o '(' -name '*.rt' -o -name '*.antt' ')' -print) crates.txt
 export JIWARBEND_ARCHIVE = $(abspath $(ARCHIVE))
 export JIWARBEND_ORACLE = $(abspath $(ORACLE))
 OF_RUST = --quiet --offline --manifest-path rust/Cargo.toml

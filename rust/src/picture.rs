@@ -512,8 +512,8 @@ pub fn check_order(w: u32, h: u32, slices: &[u16], order: &[u32]) -> Result<Verd
 /// A picture that owns its planes and maps. It is started when it is made, and only its calls change it.
 ///
 /// A call that changes the picture takes it by `&mut`, so that no other thread is in the picture meanwhile. Calls that only read it, [`Picture::compute`] and
-/// [`Picture::turn`] among them, go side by side: [`Shared`](crate::Shared) has the lock for both, and [`finish`](crate::finish) the workers. Different pictures
-/// may be rebuilt side by side as well: a `Picture` can be sent to another thread, and nothing is shared between two of them.
+/// [`Picture::turn`] among them, go side by side: [`Shared`](crate::Shared) has the lock for both, and [`finish`](crate::finish) the workers. Different
+/// pictures may be rebuilt side by side as well: a `Picture` can be sent to another thread, and nothing is shared between two of them.
 ///
 /// A clone is another picture, which has come as far: what was computed for the one is foreign to the other.
 #[derive(Clone, Debug)]

@@ -12,8 +12,7 @@ ghost use Rattle.turned.specs.TurnedBlock.{TurnedBlock};
 ghost use Rattle.jiwarbend.specs.Exports.{◌has◌};
 
 // A case turned on its side gets, in the mode's partner, the same answer and the transposed block.
-#[unsafe(no_mangle)]
-pub extern "C" fn jiwarbend_intra4x4_pred(
+pub fn jiwarbend_intra4x4_pred(
     mode: u8,
     avail_top: bool,
     avail_left: bool,
@@ -42,8 +41,7 @@ pub extern "C" fn jiwarbend_intra4x4_pred(
 }
 
 // The same for 8x8, where above sample 8 equals above sample 7 before the exchange and after it.
-#[unsafe(no_mangle)]
-pub extern "C" fn jiwarbend_intra8x8_pred(
+pub fn jiwarbend_intra8x8_pred(
     mode: u8,
     avail_top: bool,
     avail_left: bool,
@@ -71,8 +69,7 @@ pub extern "C" fn jiwarbend_intra8x8_pred(
     )
 }
 
-#[unsafe(no_mangle)]
-pub extern "C" fn jiwarbend_luma16x16_pred(
+pub fn jiwarbend_luma16x16_pred(
     mode: u8,
     avail_top: bool,
     avail_left: bool,
@@ -99,8 +96,7 @@ pub extern "C" fn jiwarbend_luma16x16_pred(
     )
 }
 
-#[unsafe(no_mangle)]
-pub extern "C" fn jiwarbend_chroma8x8_pred(
+pub fn jiwarbend_chroma8x8_pred(
     mode: u8,
     avail_top: bool,
     avail_left: bool,
@@ -127,29 +123,27 @@ pub extern "C" fn jiwarbend_chroma8x8_pred(
     )
 }
 
-#[unsafe(no_mangle)]
-pub extern "C" fn jiwarbend_luma16x16_dc(
+pub fn jiwarbend_luma16x16_dc(
     avail_top: bool,
     avail_left: bool,
     top: &[u8],
     left: &[u8],
     out: &mut [u8],
 ) -> u32
-    ensures value { result ≡ answer (2 unless (λ x. x.now) top.entry has 16 ∷ 2 unless (λ x. x.now) left.entry has 16 ∷ 2 unless (λ x. x.now) out.entry has 1 ∷ []) }
+    ensures value { result ≡ answer (2 unless top.now has 16 ∷ 2 unless left.now has 16 ∷ 2 unless out.old has 1 ∷ []) }
     ensures out_after { out.new ≡ written result out.old (dc 16 avail_top avail_left (near top.now left.now 0) ∷ []) }
 {
     samples::intra_16x16::luma16x16_dc(avail_top, avail_left, top, left, out)
 }
 
-#[unsafe(no_mangle)]
-pub extern "C" fn jiwarbend_chroma8x8_dc(
+pub fn jiwarbend_chroma8x8_dc(
     avail_top: bool,
     avail_left: bool,
     top: &[u8],
     left: &[u8],
     out: &mut [u8],
 ) -> u32
-    ensures value { result ≡ answer (2 unless (λ x. x.now) top.entry has 8 ∷ 2 unless (λ x. x.now) left.entry has 8 ∷ 2 unless (λ x. x.now) out.entry has 64 ∷ []) }
+    ensures value { result ≡ answer (2 unless top.now has 8 ∷ 2 unless left.now has 8 ∷ 2 unless out.old has 64 ∷ []) }
     ensures out_after { out.new ≡ written result out.old
         (block_of 8 (chroma_dc avail_top avail_left (near top.now left.now 0))) }
 {

@@ -7,8 +7,7 @@ ghost use Rattle.samples.specs.IntraChroma.{pred_c};
 ghost use Rattle.samples.specs.IntraPlane.{plane_answer};
 ghost use Rattle.basics.specs.Near.{near_in};
 
-#[unsafe(no_mangle)]
-pub extern "C" fn jiwarbend_i16x16_luma_pred(
+pub fn jiwarbend_i16x16_luma_pred(
     mode: u8,
     pred: &mut [u8],
     rec: &[u8],
@@ -22,8 +21,7 @@ pub extern "C" fn jiwarbend_i16x16_luma_pred(
     samples::intra_plane::i16x16_luma_pred(mode, pred, rec, base, stride)
 }
 
-#[unsafe(no_mangle)]
-pub extern "C" fn jiwarbend_chroma8x8_plane_pred(
+pub fn jiwarbend_chroma8x8_plane_pred(
     mode: u8,
     pred: &mut [u8],
     rec: &[u8],

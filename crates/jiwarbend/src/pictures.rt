@@ -12,8 +12,7 @@ use macroblock::Strides;
 use maps::progress::Progress;
 use maps::size::Spot;
 
-#[unsafe(no_mangle)]
-pub extern "C" fn jiwarbend_start(w: u32, h: u32, done: &mut [u8], progress: &mut [u32; 2]) -> u32
+pub fn jiwarbend_start(w: u32, h: u32, done: &mut [u8], progress: &mut [u32; 2]) -> u32
     ensures value { result ≡ start_answer w h (length done.old) }
     ensures progress_after { progress_of progress.new ≡ written result (progress_of progress.old) begun }
     ensures done_after { done.new ≡ written result done.old (replicate (length done.old) 0) }
@@ -33,8 +32,7 @@ pub extern "C" fn jiwarbend_start(w: u32, h: u32, done: &mut [u8], progress: &mu
 }
 
 // In whatever order the macroblocks come, a finished picture is the right one, and it can always be finished; a lost slice does not spoil the others.
-#[unsafe(no_mangle)]
-pub extern "C" fn jiwarbend_rebuild(
+pub fn jiwarbend_rebuild(
     w: u32,
     h: u32,
     x: u32,
@@ -56,8 +54,8 @@ pub extern "C" fn jiwarbend_rebuild(
     ensures rebuilds { Rebuilds
         (call (record { w = w; h = h; x = x; y = y }) (record { luma = luma_stride; cb = cb_stride; cr = cr_stride })
         slices.now (record_of kind modes.now chroma_mode numbers.now))
-        (lent luma.entry.now cb.old cr.old done.old (progress_of progress.old))
-        result (lent luma.exit.now cb.new cr.new done.new (progress_of progress.new)) }
+        (lent luma.old cb.old cr.old done.old (progress_of progress.old))
+        result (lent luma.new cb.new cr.new done.new (progress_of progress.new)) }
     ensures any_order { (g : Picture) → AnyOrder g }
     ensures slices_apart { SlicesApart }
 {

@@ -9,8 +9,7 @@ ghost use Rattle.transform_8x8.specs.Fits8x8.{Fits8x8};
 ghost use Rattle.transform_8x8.specs.Inverse8x8.{inverse8x8, in_range8x8};
 
 // Where it answers 0, sixteen bits hold every value on the way to the residuals.
-#[unsafe(no_mangle)]
-pub extern "C" fn jiwarbend_inverse_4x4(deq: &[i32], out: &mut [i32]) -> u32
+pub fn jiwarbend_inverse_4x4(deq: &[i32], out: &mut [i32]) -> u32
     ensures value { result ≡ inverse_answer 16 in_range4x4 deq.now (length out.old) }
     ensures out_after { out.new ≡ written result out.old (inverse4x4 deq.now) }
     ensures fits4x4 { result ≡ 0 → Fits4x4 deq.now }
@@ -19,8 +18,7 @@ pub extern "C" fn jiwarbend_inverse_4x4(deq: &[i32], out: &mut [i32]) -> u32
 }
 
 // The same of an 8x8 block.
-#[unsafe(no_mangle)]
-pub extern "C" fn jiwarbend_inverse_8x8(deq: &[i32], out: &mut [i32]) -> u32
+pub fn jiwarbend_inverse_8x8(deq: &[i32], out: &mut [i32]) -> u32
     ensures value { result ≡ inverse_answer 64 in_range8x8 deq.now (length out.old) }
     ensures out_after { out.new ≡ written result out.old (inverse8x8 deq.now) }
     ensures fits8x8 { result ≡ 0 → Fits8x8 deq.now }
@@ -28,32 +26,28 @@ pub extern "C" fn jiwarbend_inverse_8x8(deq: &[i32], out: &mut [i32]) -> u32
     transform_8x8::inverse::inverse_8x8_list(deq, out)
 }
 
-#[unsafe(no_mangle)]
-pub extern "C" fn jiwarbend_reconstruct_4x4(deq: &[i32], pred: &[i32], out: &mut [u8]) -> u32
+pub fn jiwarbend_reconstruct_4x4(deq: &[i32], pred: &[i32], out: &mut [u8]) -> u32
     ensures value { result ≡ sums_answer 16 in_range4x4 deq.now pred.now (length out.old) }
     ensures out_after { out.new ≡ written result out.old (sums 16 (inverse4x4 deq.now) pred.now) }
 {
     residual::reconstruct::reconstruct_4x4_lists(deq, pred, out)
 }
 
-#[unsafe(no_mangle)]
-pub extern "C" fn jiwarbend_add_residual_4x4(res: &[i32], pred: &[i32], out: &mut [u8]) -> u32
+pub fn jiwarbend_add_residual_4x4(res: &[i32], pred: &[i32], out: &mut [u8]) -> u32
     ensures value { result ≡ sums_answer 16 all_in_range res.now pred.now (length out.old) }
     ensures out_after { out.new ≡ written result out.old (sums 16 res.now pred.now) }
 {
     residual::reconstruct::add_residual_lists(16, res, pred, out)
 }
 
-#[unsafe(no_mangle)]
-pub extern "C" fn jiwarbend_add_residual_8x8(res: &[i32], pred: &[i32], out: &mut [u8]) -> u32
+pub fn jiwarbend_add_residual_8x8(res: &[i32], pred: &[i32], out: &mut [u8]) -> u32
     ensures value { result ≡ sums_answer 64 all_in_range res.now pred.now (length out.old) }
     ensures out_after { out.new ≡ written result out.old (sums 64 res.now pred.now) }
 {
     residual::reconstruct::add_residual_lists(64, res, pred, out)
 }
 
-#[unsafe(no_mangle)]
-pub extern "C" fn jiwarbend_reconstruct_4x4_into(
+pub fn jiwarbend_reconstruct_4x4_into(
     deq: &[i32],
     pred: &[u8],
     p_off: usize,
@@ -70,8 +64,7 @@ pub extern "C" fn jiwarbend_reconstruct_4x4_into(
     residual::reconstruct::reconstruct_4x4_into(deq, pred, p_off, p_stride, rec, r_off, r_stride)
 }
 
-#[unsafe(no_mangle)]
-pub extern "C" fn jiwarbend_reconstruct_4x4_dc_into(
+pub fn jiwarbend_reconstruct_4x4_dc_into(
     rval: i32,
     pred: &[u8],
     p_off: usize,
@@ -90,8 +83,7 @@ pub extern "C" fn jiwarbend_reconstruct_4x4_dc_into(
     )
 }
 
-#[unsafe(no_mangle)]
-pub extern "C" fn jiwarbend_add_residual_4x4_into(
+pub fn jiwarbend_add_residual_4x4_into(
     res: &[i32],
     pred: &[u8],
     p_off: usize,

@@ -14,8 +14,7 @@ ghost use Rattle.turns.specs.OneTurn.{OneTurn};
 ghost use Rattle.turns.specs.TurnByTurn.{TurnByTurn};
 
 // Counts that were counted are never refused, and counts that are off always are.
-#[unsafe(no_mangle)]
-pub extern "C" fn jiwarbend_count_rows(w: u32, h: u32, done: &[u8], rows: &mut [u32]) -> u32
+pub fn jiwarbend_count_rows(w: u32, h: u32, done: &[u8], rows: &mut [u32]) -> u32
     ensures value { result ≡ count_answer w h (length done.now) (length rows.old) }
     ensures rows_after { rows.new ≡ written result rows.old (row_counts w h done.now) }
     ensures by_index { (slices : List ℕ) → Agreed w h slices done.now }
@@ -24,8 +23,7 @@ pub extern "C" fn jiwarbend_count_rows(w: u32, h: u32, done: &[u8], rows: &mut [
 }
 
 // There is a turn while a macroblock is undone; whoever takes its macroblocks, in whatever order, meets no refusal and leaves the same.
-#[unsafe(no_mangle)]
-pub extern "C" fn jiwarbend_turn(
+pub fn jiwarbend_turn(
     w: u32,
     h: u32,
     done: &[u8],
@@ -43,8 +41,7 @@ pub extern "C" fn jiwarbend_turn(
 }
 
 // How many turns a picture takes: so many whole turns finish it, whoever takes them and in whatever order, and no fewer.
-#[unsafe(no_mangle)]
-pub extern "C" fn jiwarbend_turns(w: u32, h: u32, slices: &[u16], turns: &mut u32) -> u32
+pub fn jiwarbend_turns(w: u32, h: u32, slices: &[u16], turns: &mut u32) -> u32
     ensures value { result ≡ turn_count_answer w h (length slices.now) }
     ensures turns_after { turns.new ≡ written result turns.old (turn_count w h slices.now) }
     ensures how_many { result ≡ 0 → HowMany w h slices.now }
@@ -55,8 +52,7 @@ pub extern "C" fn jiwarbend_turns(w: u32, h: u32, slices: &[u16], turns: &mut u3
 
 // Whether a list names every macroblock once, each after all its available neighbours: such a list, replayed with acceptable records, meets no refusal and
 // finishes the picture.
-#[unsafe(no_mangle)]
-pub extern "C" fn jiwarbend_check_order(
+pub fn jiwarbend_check_order(
     w: u32,
     h: u32,
     slices: &[u16],
@@ -72,14 +68,7 @@ pub extern "C" fn jiwarbend_check_order(
 }
 
 // Where in such a list the first entry is out of place: before it all are in place.
-#[unsafe(no_mangle)]
-pub extern "C" fn jiwarbend_out_of_place(
-    w: u32,
-    h: u32,
-    slices: &[u16],
-    order: &[u32],
-    place: &mut u32,
-) -> u32
+pub fn jiwarbend_out_of_place(w: u32, h: u32, slices: &[u16], order: &[u32], place: &mut u32) -> u32
     ensures value { result ≡ order_answer w h (length slices.now) order.now }
     ensures place_after { place.new ≡ written result place.old (out_of_place w slices.now order.now) }
     ensures told { result ≡ 0 → Told w h slices.now }

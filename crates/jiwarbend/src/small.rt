@@ -9,15 +9,13 @@ ghost use Rattle.reads.specs.Exactly.{Exactly, luma4x4, luma8x8, luma16x16, chro
 ghost use Rattle.reads.specs.Groups.{marked, group_set, reads4x4, reads8x8, reads16x16, reads_chroma};
 ghost use Rattle.jiwarbend.specs.Exports.{◌has◌, neighbor};
 
-#[unsafe(no_mangle)]
-pub extern "C" fn jiwarbend_clip_u8(v: i32) -> u8
+pub fn jiwarbend_clip_u8(v: i32) -> u8
     ensures { result ≡ Clip1 v }
 {
     basics::clip::clip_u8(v)
 }
 
-#[unsafe(no_mangle)]
-pub extern "C" fn jiwarbend_chroma_qp(qp: u8) -> u8
+pub fn jiwarbend_chroma_qp(qp: u8) -> u8
     ensures { result ≡ QPc qp }
 {
     let c = basics::qp::chroma_qp(basics::qp::LumaQp(qp));
@@ -34,8 +32,7 @@ fn neighbor_of(there: bool, n: u8) -> basics::nnz::Neighbor
     basics::nnz::Neighbor::Absent
 }
 
-#[unsafe(no_mangle)]
-pub extern "C" fn jiwarbend_nc_from_neighbors(has_a: bool, a: u8, has_b: bool, b: u8) -> i32
+pub fn jiwarbend_nc_from_neighbors(has_a: bool, a: u8, has_b: bool, b: u8) -> i32
     ensures { result ≡ pos (n_c (neighbor has_a a) (neighbor has_b b)) }
 {
     let left = neighbor_of(has_a, a);
@@ -43,60 +40,38 @@ pub extern "C" fn jiwarbend_nc_from_neighbors(has_a: bool, a: u8, has_b: bool, b
     basics::nnz::nc_from_neighbors(left, above)
 }
 
-#[unsafe(no_mangle)]
-pub extern "C" fn jiwarbend_nnz_raster_from_z(n: &[u8], out: &mut [u8]) -> u32
-    ensures value { result ≡ answer (2 unless (λ x. x.now) n.entry has 24 ∷ 2 unless (λ x. x.now) out.entry has 24 ∷ []) }
+pub fn jiwarbend_nnz_raster_from_z(n: &[u8], out: &mut [u8]) -> u32
+    ensures value { result ≡ answer (2 unless n.now has 24 ∷ 2 unless out.old has 24 ∷ []) }
     ensures out_after { out.new ≡ written result out.old (in_raster n.now) }
 {
     basics::nnz::nnz_raster_from_z(n, out)
 }
 
-#[unsafe(no_mangle)]
-pub extern "C" fn jiwarbend_permitted_4x4(
-    avail_top: bool,
-    avail_left: bool,
-    avail_corner: bool,
-) -> u16
+pub fn jiwarbend_permitted_4x4(avail_top: bool, avail_left: bool, avail_corner: bool) -> u16
     ensures { result ≡ mode_set 9 (permitted_nxn avail_top avail_left avail_corner) }
 {
     basics::marks::permitted_4x4(avail_top, avail_left, avail_corner)
 }
 
-#[unsafe(no_mangle)]
-pub extern "C" fn jiwarbend_permitted_8x8(
-    avail_top: bool,
-    avail_left: bool,
-    avail_corner: bool,
-) -> u16
+pub fn jiwarbend_permitted_8x8(avail_top: bool, avail_left: bool, avail_corner: bool) -> u16
     ensures { result ≡ mode_set 9 (permitted_nxn avail_top avail_left avail_corner) }
 {
     basics::marks::permitted_8x8(avail_top, avail_left, avail_corner)
 }
 
-#[unsafe(no_mangle)]
-pub extern "C" fn jiwarbend_permitted_16x16(
-    avail_top: bool,
-    avail_left: bool,
-    avail_corner: bool,
-) -> u16
+pub fn jiwarbend_permitted_16x16(avail_top: bool, avail_left: bool, avail_corner: bool) -> u16
     ensures { result ≡ mode_set 4 (permitted16x16 avail_top avail_left avail_corner) }
 {
     basics::marks::permitted_16x16(avail_top, avail_left, avail_corner)
 }
 
-#[unsafe(no_mangle)]
-pub extern "C" fn jiwarbend_permitted_chroma(
-    avail_top: bool,
-    avail_left: bool,
-    avail_corner: bool,
-) -> u16
+pub fn jiwarbend_permitted_chroma(avail_top: bool, avail_left: bool, avail_corner: bool) -> u16
     ensures { result ≡ mode_set 4 (permitted_chroma avail_top avail_left avail_corner) }
 {
     basics::marks::permitted_chroma(avail_top, avail_left, avail_corner)
 }
 
-#[unsafe(no_mangle)]
-pub extern "C" fn jiwarbend_reads_4x4(
+pub fn jiwarbend_reads_4x4(
     mode: u8,
     avail_top: bool,
     avail_left: bool,
@@ -109,8 +84,7 @@ pub extern "C" fn jiwarbend_reads_4x4(
     reads::groups::reads_4x4(mode, avail_top, avail_left, avail_corner, avail_right)
 }
 
-#[unsafe(no_mangle)]
-pub extern "C" fn jiwarbend_reads_8x8(
+pub fn jiwarbend_reads_8x8(
     mode: u8,
     avail_top: bool,
     avail_left: bool,
@@ -123,26 +97,14 @@ pub extern "C" fn jiwarbend_reads_8x8(
     reads::groups::reads_8x8(mode, avail_top, avail_left, avail_corner, avail_right)
 }
 
-#[unsafe(no_mangle)]
-pub extern "C" fn jiwarbend_reads_16x16(
-    mode: u8,
-    avail_top: bool,
-    avail_left: bool,
-    avail_corner: bool,
-) -> u8
+pub fn jiwarbend_reads_16x16(mode: u8, avail_top: bool, avail_left: bool, avail_corner: bool) -> u8
     ensures value { result ≡ group_set (reads16x16 (marked avail_top avail_left avail_corner false) mode) }
     ensures exactly { Exactly luma16x16 }
 {
     reads::groups::reads_16x16(mode, avail_top, avail_left, avail_corner)
 }
 
-#[unsafe(no_mangle)]
-pub extern "C" fn jiwarbend_reads_chroma(
-    mode: u8,
-    avail_top: bool,
-    avail_left: bool,
-    avail_corner: bool,
-) -> u8
+pub fn jiwarbend_reads_chroma(mode: u8, avail_top: bool, avail_left: bool, avail_corner: bool) -> u8
     ensures value { result ≡ group_set (reads_chroma (marked avail_top avail_left avail_corner false) mode) }
     ensures exactly { Exactly chroma8x8 }
 {

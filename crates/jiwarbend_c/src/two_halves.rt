@@ -1,4 +1,4 @@
-// A macroblock call in two halves, for several cores on one picture. C's progress record is its two numbers, one after the other.
+// A macroblock call in two halves for C, for several cores on one picture. The progress record is its two numbers, one after the other.
 ghost use Rattle.macroblock.specs.Kinds.{record_of};
 ghost use Rattle.macroblock.specs.declared.Record.{Record};
 ghost use Rattle.maps.specs.Progress.{progress_of};
@@ -8,9 +8,6 @@ ghost use Rattle.halves.specs.Halves.{Computes, Commits};
 ghost use Rattle.halves.specs.InTwo.{InTwo};
 ghost use Rattle.halves.specs.Lasting.{Lasting};
 ghost use Rattle.halves.specs.Workers.{Workers};
-
-use macroblock::Strides;
-use maps::size::Spot;
 
 // What compute leaves in the block, commit puts into the planes: at once it is what the whole call leaves, and later too, as long as the macroblock is undone.
 #[unsafe(no_mangle)]
@@ -37,23 +34,22 @@ pub extern "C" fn jiwarbend_compute(
     ensures computes { Computes
         (call (record { w = w; h = h; x = x; y = y }) (record { luma = luma_stride; cb = cb_stride; cr = cr_stride })
         slices.now (record_of kind modes.now chroma_mode numbers.now))
-        (lent luma.entry.now cb.now cr.now done.now (progress_of progress.now))
+        (lent luma.now cb.now cr.now done.now (progress_of progress.now))
         block.old result block.new }
     ensures in_two { InTwo }
     ensures lasting { (g : Picture) → Lasting g }
 {
-    let spot = Spot { w, h, x, y };
-    let strides = Strides {
-        luma: luma_stride,
-        cb: cb_stride,
-        cr: cr_stride,
-    };
-    cores::compute::compute(
-        spot,
+    jiwarbend::two_halves::jiwarbend_compute(
+        w,
+        h,
+        x,
+        y,
         luma,
+        luma_stride,
         cb,
+        cb_stride,
         cr,
-        strides,
+        cr_stride,
         done,
         slices,
         progress,
@@ -85,15 +81,24 @@ pub extern "C" fn jiwarbend_commit(
 ) -> u32
     ensures commits { (m : Record) → Commits
         (call (record { w = w; h = h; x = x; y = y }) (record { luma = luma_stride; cb = cb_stride; cr = cr_stride }) slices.now m)
-        block.now (lent luma.entry.now cb.old cr.old done.old (progress_of progress.old))
-        result (lent luma.exit.now cb.new cr.new done.new (progress_of progress.new)) }
+        block.now (lent luma.old cb.old cr.old done.old (progress_of progress.old))
+        result (lent luma.new cb.new cr.new done.new (progress_of progress.new)) }
     ensures workers { (g : Picture) → Workers g }
 {
-    let spot = Spot { w, h, x, y };
-    let strides = Strides {
-        luma: luma_stride,
-        cb: cb_stride,
-        cr: cr_stride,
-    };
-    cores::commit::commit(spot, luma, cb, cr, strides, done, slices, progress, block)
+    jiwarbend::two_halves::jiwarbend_commit(
+        w,
+        h,
+        x,
+        y,
+        luma,
+        luma_stride,
+        cb,
+        cb_stride,
+        cr,
+        cr_stride,
+        done,
+        slices,
+        progress,
+        block,
+    )
 }

@@ -1,0 +1,7 @@
+-- `jiwarbend::intra::jiwarbend_chroma8x8_dc` meets its contract: it is mode 0 of the predictor, which is permitted anywhere. Assumes nothing.
+use Rattle.samples.specs.IntraChroma.{pred_c}
+use Rattle.jiwarbend.proofs.intra.jiwarbend_chroma8x8_dc.Goals as goal
+
+pub returns : goal.returns
+unfolding pred_c
+returns c = record { value = c.chroma8x8_pred_into.ensures.answer; out_after = c.chroma8x8_pred_into.ensures.lent }
