@@ -1,5 +1,6 @@
 // The limits of the calls on one block.
 use super::tell::tell;
+use std::io;
 
 // A lone coefficient put over a prediction of zeros, in a plane of 12292 bytes: just room for four rows of four at a stride of 4096.
 fn put(p_off: usize, p_stride: usize, r_off: usize, r_stride: usize) -> u32 {
@@ -11,48 +12,65 @@ fn put(p_off: usize, p_stride: usize, r_off: usize, r_stride: usize) -> u32 {
     )
 }
 
-pub(crate) fn strides() {
-    tell(b"reconstruct_4x4_into, written stride 3", put(0, 4, 0, 3));
-    tell(b"reconstruct_4x4_into, written stride 4", put(0, 4, 0, 4));
+pub(crate) fn strides(rt: &impl Print) -> io::Result<()> {
     tell(
+        rt,
+        b"reconstruct_4x4_into, written stride 3",
+        put(0, 4, 0, 3),
+    )?;
+    tell(
+        rt,
+        b"reconstruct_4x4_into, written stride 4",
+        put(0, 4, 0, 4),
+    )?;
+    tell(
+        rt,
         b"reconstruct_4x4_into, written stride 4096",
         put(0, 4, 0, 4096),
-    );
+    )?;
     tell(
+        rt,
         b"reconstruct_4x4_into, written stride 4097",
         put(0, 4, 0, 4097),
-    );
+    )?;
     tell(
+        rt,
         b"reconstruct_4x4_into, prediction stride 0",
         put(0, 0, 0, 4),
-    );
+    )?;
     tell(
+        rt,
         b"reconstruct_4x4_into, prediction stride 4096",
         put(0, 4096, 0, 4),
-    );
+    )?;
     tell(
+        rt,
         b"reconstruct_4x4_into, prediction stride 4097",
         put(0, 4097, 0, 4),
-    );
+    )
 }
 
-pub(crate) fn places() {
+pub(crate) fn places(rt: &impl Print) -> io::Result<()> {
     tell(
+        rt,
         b"reconstruct_4x4_into, four rows that end with the plane",
         put(0, 4, 12276, 4),
-    );
+    )?;
     tell(
+        rt,
         b"reconstruct_4x4_into, one byte further",
         put(0, 4, 12277, 4),
-    );
+    )?;
     tell(
+        rt,
         b"reconstruct_4x4_into, the largest offset",
         put(0, 4, 18446744073709551615, 4),
-    );
+    )?;
     tell(
+        rt,
         b"reconstruct_4x4_into, a prediction at the largest offset",
         put(18446744073709551615, 0, 0, 4),
-    );
+    )
 }
 
 // One number among zeros, as a residual, a flat residual and a prediction.
@@ -76,13 +94,29 @@ fn flat(v: i32) -> u32 {
     residual::reconstruct::reconstruct_4x4_dc_into(v, &pred, 0, 4, &mut rec, 0, 4)
 }
 
-pub(crate) fn numbers() {
-    tell(b"add_residual_8x8, residual 32767", residual(32767));
-    tell(b"add_residual_8x8, residual 32768", residual(32768));
-    tell(b"add_residual_4x4, prediction -32768", prediction(-32768));
-    tell(b"add_residual_4x4, prediction -32769", prediction(-32769));
-    tell(b"reconstruct_4x4_dc_into, flat residual 32767", flat(32767));
-    tell(b"reconstruct_4x4_dc_into, flat residual 32768", flat(32768));
+pub(crate) fn numbers(rt: &impl Print) -> io::Result<()> {
+    tell(rt, b"add_residual_8x8, residual 32767", residual(32767))?;
+    tell(rt, b"add_residual_8x8, residual 32768", residual(32768))?;
+    tell(
+        rt,
+        b"add_residual_4x4, prediction -32768",
+        prediction(-32768),
+    )?;
+    tell(
+        rt,
+        b"add_residual_4x4, prediction -32769",
+        prediction(-32769),
+    )?;
+    tell(
+        rt,
+        b"reconstruct_4x4_dc_into, flat residual 32767",
+        flat(32767),
+    )?;
+    tell(
+        rt,
+        b"reconstruct_4x4_dc_into, flat residual 32768",
+        flat(32768),
+    )
 }
 
 // 16x16 luma read from a plane of 65552 bytes at a stride; the block's first sample follows the corner by a row and a column.
@@ -104,22 +138,24 @@ fn lent_255() -> u32 {
     samples::intra_plane::i16x16_luma_pred(0, &mut pred, &rec, 18, 17)
 }
 
-pub(crate) fn plane_forms() {
-    tell(b"i16x16_luma_pred, stride 0", luma(0, 0, 18));
-    tell(b"i16x16_luma_pred, stride 1", luma(0, 1, 18));
-    tell(b"i16x16_luma_pred, stride 4096", luma(0, 4096, 4097));
-    tell(b"i16x16_luma_pred, stride 4097", luma(0, 4097, 4098));
+pub(crate) fn plane_forms(rt: &impl Print) -> io::Result<()> {
+    tell(rt, b"i16x16_luma_pred, stride 0", luma(0, 0, 18))?;
+    tell(rt, b"i16x16_luma_pred, stride 1", luma(0, 1, 18))?;
+    tell(rt, b"i16x16_luma_pred, stride 4096", luma(0, 4096, 4097))?;
+    tell(rt, b"i16x16_luma_pred, stride 4097", luma(0, 4097, 4098))?;
     tell(
+        rt,
         b"i16x16_luma_pred, base at the stride: no corner",
         luma(2, 17, 17),
-    );
+    )?;
     tell(
+        rt,
         b"i16x16_luma_pred, the largest base",
         luma(2, 17, 18446744073709551615),
-    );
-    tell(b"i16x16_luma_pred, mode 4", luma(4, 17, 18));
-    tell(b"i16x16_luma_pred, 255 bytes lent", lent_255());
-    tell(b"chroma8x8_pred from a plane, mode 1", chroma(1));
-    tell(b"chroma8x8_pred from a plane, mode 2", chroma(2));
-    tell(b"chroma8x8_pred from a plane, mode 4", chroma(4));
+    )?;
+    tell(rt, b"i16x16_luma_pred, mode 4", luma(4, 17, 18))?;
+    tell(rt, b"i16x16_luma_pred, 255 bytes lent", lent_255())?;
+    tell(rt, b"chroma8x8_pred from a plane, mode 1", chroma(1))?;
+    tell(rt, b"chroma8x8_pred from a plane, mode 2", chroma(2))?;
+    tell(rt, b"chroma8x8_pred from a plane, mode 4", chroma(4))
 }

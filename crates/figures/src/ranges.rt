@@ -2,6 +2,7 @@
 // alone at place 0, and blocks whose coefficients are in range and of which a value leaves it in the rows alone, in the columns, or at the very end.
 use super::tell::tell;
 use residual::inverse::inverse_4x4;
+use std::io;
 use transform_8x8::inverse::inverse_8x8;
 
 // Three coefficients of a 4x4 block among zeros.
@@ -40,39 +41,47 @@ fn alone_8x8(v: i32) -> [i32; 64] {
     block_8x8(0, v, 1, 0)
 }
 
-pub(crate) fn alone() {
+pub(crate) fn alone(rt: &impl Print) -> io::Result<()> {
     tell(
+        rt,
         b"inverse_4x4, coefficient 32735 at place 0",
         inverse_4x4(&alone_4x4(32735)).answer,
-    );
+    )?;
     tell(
+        rt,
         b"inverse_4x4, coefficient 32736 at place 0",
         inverse_4x4(&alone_4x4(32736)).answer,
-    );
+    )?;
     tell(
+        rt,
         b"inverse_4x4, coefficient -32768 at place 0",
         inverse_4x4(&alone_4x4(-32768)).answer,
-    );
+    )?;
     tell(
+        rt,
         b"inverse_4x4, coefficient -32769 at place 0",
         inverse_4x4(&alone_4x4(-32769)).answer,
-    );
+    )?;
     tell(
+        rt,
         b"inverse_8x8, coefficient 32735 at place 0",
         inverse_8x8(&alone_8x8(32735)).answer,
-    );
+    )?;
     tell(
+        rt,
         b"inverse_8x8, coefficient 32736 at place 0",
         inverse_8x8(&alone_8x8(32736)).answer,
-    );
+    )?;
     tell(
+        rt,
         b"inverse_8x8, coefficient -32768 at place 0",
         inverse_8x8(&alone_8x8(-32768)).answer,
-    );
+    )?;
     tell(
+        rt,
         b"inverse_8x8, coefficient -32769 at place 0",
         inverse_8x8(&alone_8x8(-32769)).answer,
-    );
+    )
 }
 
 // A 4x4 block's row 1 comes to 20000 + v, of which row 3 takes some back in the columns; its column 0 comes to 20000 + v in both steps, or in the second.
@@ -101,24 +110,46 @@ fn end_8x8(v: i32) -> u32 {
     inverse_8x8(&block_8x8(0, 20000, 8, v)).answer
 }
 
-pub(crate) fn halfway() {
-    tell(b"inverse_4x4, a row comes to 32767", row_4x4(12767));
-    tell(b"inverse_4x4, a row alone comes to 32768", row_4x4(12768));
+pub(crate) fn halfway(rt: &impl Print) -> io::Result<()> {
+    tell(rt, b"inverse_4x4, a row comes to 32767", row_4x4(12767))?;
     tell(
+        rt,
+        b"inverse_4x4, a row alone comes to 32768",
+        row_4x4(12768),
+    )?;
+    tell(
+        rt,
         b"inverse_4x4, a column and its end come to 38000",
         column_4x4(18000),
-    );
-    tell(b"inverse_4x4, an end comes to 32735", end_4x4(12735));
-    tell(b"inverse_4x4, an end alone comes to 32736", end_4x4(12736));
-    tell(b"inverse_8x8, a row comes to 32767", row_8x8(21845));
-    tell(b"inverse_8x8, a row alone comes to 32769", row_8x8(21846));
-    tell(b"inverse_8x8, a column comes to 32767", column_8x8(21845));
+    )?;
+    tell(rt, b"inverse_4x4, an end comes to 32735", end_4x4(12735))?;
     tell(
+        rt,
+        b"inverse_4x4, an end alone comes to 32736",
+        end_4x4(12736),
+    )?;
+    tell(rt, b"inverse_8x8, a row comes to 32767", row_8x8(21845))?;
+    tell(
+        rt,
+        b"inverse_8x8, a row alone comes to 32769",
+        row_8x8(21846),
+    )?;
+    tell(
+        rt,
+        b"inverse_8x8, a column comes to 32767",
+        column_8x8(21845),
+    )?;
+    tell(
+        rt,
         b"inverse_8x8, a column alone comes to 32769",
         column_8x8(21846),
-    );
-    tell(b"inverse_8x8, an end comes to 32735", end_8x8(8490));
-    tell(b"inverse_8x8, an end alone comes to 32736", end_8x8(8491));
+    )?;
+    tell(rt, b"inverse_8x8, an end comes to 32735", end_8x8(8490))?;
+    tell(
+        rt,
+        b"inverse_8x8, an end alone comes to 32736",
+        end_8x8(8491),
+    )
 }
 
 // The same limit of the calls that add a prediction.
@@ -133,9 +164,9 @@ fn put(v: i32) -> u32 {
     residual::reconstruct::reconstruct_4x4_into(&alone_4x4(v), &pred, 0, 4, &mut rec, 0, 4)
 }
 
-pub(crate) fn sums() {
-    tell(b"reconstruct_4x4, coefficient 32735", sum(32735));
-    tell(b"reconstruct_4x4, coefficient 32736", sum(32736));
-    tell(b"reconstruct_4x4_into, coefficient 32735", put(32735));
-    tell(b"reconstruct_4x4_into, coefficient 32736", put(32736));
+pub(crate) fn sums(rt: &impl Print) -> io::Result<()> {
+    tell(rt, b"reconstruct_4x4, coefficient 32735", sum(32735))?;
+    tell(rt, b"reconstruct_4x4, coefficient 32736", sum(32736))?;
+    tell(rt, b"reconstruct_4x4_into, coefficient 32735", put(32735))?;
+    tell(rt, b"reconstruct_4x4_into, coefficient 32736", put(32736))
 }

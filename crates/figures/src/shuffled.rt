@@ -6,9 +6,9 @@ ghost use Rattle.std.specs.Prelude.{◌<◌, ◌≤◌};
 use super::offer::offer;
 use super::tell::tell;
 use jiwarbend::pictures::jiwarbend_start;
-use libc::STDOUT_FILENO;
 use macroblock::{Record, Strides};
 use maps::size::Spot;
+use std::io;
 
 const SLICES: [u16; 6] = [0, 0, 1, 0, 0, 1];
 
@@ -171,7 +171,7 @@ fn offered(picture: u32, a: usize) -> Record {
 }
 
 // How often each answer was given.
-#[derive(Drop)]
+#[derive(Clone, Copy)]
 pub(crate) struct Answers {
     accepted: u32,
     done: u32,
@@ -199,6 +199,7 @@ fn count(n: Answers, answer: u32) -> Answers {
 
 // The answers to so many offers of one of the pictures in an order that comes round, each macroblock with its own record.
 pub(crate) fn rebuild_all(
+    rt: &impl Print,
     picture: u32,
     order: [u32; 6],
     offers: usize,
@@ -206,7 +207,7 @@ pub(crate) fn rebuild_all(
     cb: &mut [u8],
     cr: &mut [u8],
     done: &mut [u8],
-) -> Answers
+) -> io::Result<Answers>
     requires { offers ≤ 36 }
 {
     let mut n = Answers {
@@ -244,15 +245,15 @@ pub(crate) fn rebuild_all(
         );
         n = count(n, r);
     }
-    tell(b"  counted", progress[0]);
-    n
+    tell(rt, b"  counted", progress[0])?;
+    Ok(n)
 }
 
-pub(crate) fn tell_answers(n: Answers) {
-    tell(b"  accepted", n.accepted);
-    tell(b"  refused as done", n.done);
-    tell(b"  refused as not ready", n.not_ready);
-    tell(b"  refused otherwise", n.other);
+pub(crate) fn tell_answers(rt: &impl Print, n: Answers) -> io::Result<()> {
+    tell(rt, b"  accepted", n.accepted)?;
+    tell(rt, b"  refused as done", n.done)?;
+    tell(rt, b"  refused as not ready", n.not_ready)?;
+    tell(rt, b"  refused otherwise", n.other)
 }
 
 // The bytes of a picture in which two planes differ, and those of the padding in which one of them is not what it was before.
@@ -306,55 +307,60 @@ fn outside(i: usize, width: usize, height: usize, stride: usize) -> bool
     i / stride >= height
 }
 
-fn tell_differing(d: Differing) {
-    tell(b"  samples that differ", d.samples);
-    tell(b"  padding bytes that changed", d.padding);
+fn tell_differing(rt: &impl Print, d: Differing) -> io::Result<()> {
+    tell(rt, b"  samples that differ", d.samples)?;
+    tell(rt, b"  padding bytes that changed", d.padding)
 }
 
 // The first picture, and the second.
-pub(crate) fn compare() {
-    io::write_all(STDOUT_FILENO, b"two slices, six rounds\n");
-    both_orders(FIRST, SHUFFLED, 36);
-    io::write_all(
-        STDOUT_FILENO,
-        b"one slice, vertical macroblocks below DC, one round\n",
-    );
-    both_orders(SECOND, DOWNWARDS, 6);
+pub(crate) fn compare(rt: &impl Print) -> io::Result<()> {
+    rt.write_all(b"two slices, six rounds\n")?;
+    both_orders(rt, FIRST, SHUFFLED, 36)?;
+    rt.write_all(b"one slice, vertical macroblocks below DC, one round\n")?;
+    both_orders(rt, SECOND, DOWNWARDS, 6)
 }
 
 // A picture in raster order, and then in another one.
-fn both_orders(picture: u32, order: [u32; 6], offers: usize)
+fn both_orders(rt: &impl Print, picture: u32, order: [u32; 6], offers: usize) -> io::Result<()>
     requires { offers ≤ 36 }
 {
     let mut luma = [11u8; 1670];
     let mut cb = [12u8; 440];
     let mut cr = [13u8; 440];
     let mut done = [1u8; 6];
-    io::write_all(STDOUT_FILENO, b"raster order\n");
+    rt.write_all(b"raster order\n")?;
     let n = rebuild_all(
-        picture, RASTER, offers, &mut luma, &mut cb, &mut cr, &mut done,
-    );
-    tell_answers(n);
-    shuffle(picture, order, offers, &luma, &cb, &cr);
+        rt, picture, RASTER, offers, &mut luma, &mut cb, &mut cr, &mut done,
+    )?;
+    tell_answers(rt, n)?;
+    shuffle(rt, picture, order, offers, &luma, &cb, &cr)
 }
 
 // The other run, and what differs.
-fn shuffle(picture: u32, order: [u32; 6], offers: usize, luma: &[u8], cb: &[u8], cr: &[u8])
+fn shuffle(
+    rt: &impl Print,
+    picture: u32,
+    order: [u32; 6],
+    offers: usize,
+    luma: &[u8],
+    cb: &[u8],
+    cr: &[u8],
+) -> io::Result<()>
     requires { offers ≤ 36 }
 {
     let mut luma2 = [201u8; 1670];
     let mut cb2 = [202u8; 440];
     let mut cr2 = [203u8; 440];
     let mut done = [0u8; 6];
-    io::write_all(STDOUT_FILENO, b"another order\n");
+    rt.write_all(b"another order\n")?;
     let n = rebuild_all(
-        picture, order, offers, &mut luma2, &mut cb2, &mut cr2, &mut done,
-    );
-    tell_answers(n);
-    io::write_all(STDOUT_FILENO, b"luma of the two\n");
-    tell_differing(compared(luma, 11, &luma2, 201, 48, 32, 52));
-    io::write_all(STDOUT_FILENO, b"Cb of the two\n");
-    tell_differing(compared(cb, 12, &cb2, 202, 24, 16, 27));
-    io::write_all(STDOUT_FILENO, b"Cr of the two\n");
-    tell_differing(compared(cr, 13, &cr2, 203, 24, 16, 27));
+        rt, picture, order, offers, &mut luma2, &mut cb2, &mut cr2, &mut done,
+    )?;
+    tell_answers(rt, n)?;
+    rt.write_all(b"luma of the two\n")?;
+    tell_differing(rt, compared(luma, 11, &luma2, 201, 48, 32, 52))?;
+    rt.write_all(b"Cb of the two\n")?;
+    tell_differing(rt, compared(cb, 12, &cb2, 202, 24, 16, 27))?;
+    rt.write_all(b"Cr of the two\n")?;
+    tell_differing(rt, compared(cr, 13, &cr2, 203, 24, 16, 27))
 }

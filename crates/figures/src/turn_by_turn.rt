@@ -1,36 +1,39 @@
 // The turn list: a picture of 3 by 2 macroblocks in one slice turn by turn, how many turns pictures take, and the limits of the three calls.
 use super::tell::tell;
 use jiwarbend::schedule::{jiwarbend_count_rows, jiwarbend_turn, jiwarbend_turns};
-use libc::STDOUT_FILENO;
+use std::io;
 
 // Six turns from a cleared map, each taking its whole list.
-pub(crate) fn whole_picture() {
-    io::write_all(
-        STDOUT_FILENO,
-        b"turn by turn, 3 by 2 in one slice: how many, and the list's two places\n",
-    );
-    let first = next([0u8; 6]);
-    let second = next(first);
-    let third = next(second);
-    let fourth = next(third);
-    let fifth = next(fourth);
-    next(fifth);
+pub(crate) fn whole_picture(rt: &impl Print) -> io::Result<()> {
+    rt.write_all(b"turn by turn, 3 by 2 in one slice: how many, and the list's two places\n")?;
+    let first = next(rt, [0u8; 6])?;
+    let second = next(rt, first)?;
+    let third = next(rt, second)?;
+    let fourth = next(rt, third)?;
+    let fifth = next(rt, fourth)?;
+    next(rt, fifth)?;
+    Ok(())
 }
 
 // The map after a turn. The list's places hold 99 before it.
-fn next(done: [u8; 6]) -> [u8; 6] {
+fn next(rt: &impl Print, done: [u8; 6]) -> io::Result<[u8; 6]> {
     let mut rows = [0u32; 2];
     let mut list = [99u32; 2];
     let mut many = 0u32;
-    tell(b"count_rows", jiwarbend_count_rows(3, 2, &done, &mut rows));
     tell(
+        rt,
+        b"count_rows",
+        jiwarbend_count_rows(3, 2, &done, &mut rows),
+    )?;
+    tell(
+        rt,
         b"turn",
         jiwarbend_turn(3, 2, &done, &[0u16; 6], &rows, &mut list, &mut many),
-    );
-    tell(b"  macroblocks", many);
-    tell(b"  first place", list[0]);
-    tell(b"  second place", list[1]);
-    mark(mark(done, list[0]), list[1])
+    )?;
+    tell(rt, b"  macroblocks", many)?;
+    tell(rt, b"  first place", list[0])?;
+    tell(rt, b"  second place", list[1])?;
+    Ok(mark(mark(done, list[0]), list[1]))
 }
 
 fn mark(done: [u8; 6], address: u32) -> [u8; 6] {
@@ -57,13 +60,21 @@ fn count_5(w: u32, h: u32) -> u32 {
     jiwarbend_count_rows(w, h, &[1u8; 5], &mut rows)
 }
 
-pub(crate) fn counts() {
-    tell(b"count_rows, 120 by 68, 8160 bytes", count_8160(120, 68));
-    tell(b"count_rows, 121 by 68", count_8160(121, 68));
-    tell(b"count_rows, 120 by 69", count_8160(120, 69));
-    tell(b"count_rows, 3 by 2, 6 bytes", count_6(3, 2));
-    tell(b"count_rows, 3 by 2, 5 bytes", count_5(3, 2));
-    tell(b"count_rows, 2 by 3, 6 bytes and two counts", count_6(2, 3));
+pub(crate) fn counts(rt: &impl Print) -> io::Result<()> {
+    tell(
+        rt,
+        b"count_rows, 120 by 68, 8160 bytes",
+        count_8160(120, 68),
+    )?;
+    tell(rt, b"count_rows, 121 by 68", count_8160(121, 68))?;
+    tell(rt, b"count_rows, 120 by 69", count_8160(120, 69))?;
+    tell(rt, b"count_rows, 3 by 2, 6 bytes", count_6(3, 2))?;
+    tell(rt, b"count_rows, 3 by 2, 5 bytes", count_5(3, 2))?;
+    tell(
+        rt,
+        b"count_rows, 2 by 3, 6 bytes and two counts",
+        count_6(2, 3),
+    )
 }
 
 // The first row is done but for its last macroblock. The second is done up to its second one, whose byte is 2: that is not done.
@@ -95,74 +106,77 @@ fn half_list() -> u32 {
 }
 
 // What is left of the number and of the list by a refused turn.
-fn refused() {
+fn refused(rt: &impl Print) -> io::Result<()> {
     let mut list = [99u32; 2];
     let mut many = 77u32;
     tell(
+        rt,
         b"turn, a count ahead",
         jiwarbend_turn(3, 2, &HALF, &[0u16; 6], &[2u32, 2], &mut list, &mut many),
-    );
-    tell(b"  macroblocks", many);
-    tell(b"  first place", list[0]);
-    tell(b"  second place", list[1]);
+    )?;
+    tell(rt, b"  macroblocks", many)?;
+    tell(rt, b"  first place", list[0])?;
+    tell(rt, b"  second place", list[1])
 }
 
-pub(crate) fn turns() {
-    tell(b"turn, 3 by 2, counts 2 and 1", half([2, 1]));
-    tell(b"turn, a count behind", half([1, 1]));
-    refused();
-    tell(b"turn, a slice map of 5", half_slices());
-    tell(b"turn, three counts", half_rows());
-    tell(b"turn, a list of three places", half_list());
+pub(crate) fn turns(rt: &impl Print) -> io::Result<()> {
+    tell(rt, b"turn, 3 by 2, counts 2 and 1", half([2, 1]))?;
+    tell(rt, b"turn, a count behind", half([1, 1]))?;
+    refused(rt)?;
+    tell(rt, b"turn, a slice map of 5", half_slices())?;
+    tell(rt, b"turn, three counts", half_rows())?;
+    tell(rt, b"turn, a list of three places", half_list())
 }
 
 // How many turns a picture with this slice map takes. The number is 77 before the call, and after one that is refused.
-fn how_many(what: &[u8], w: u32, h: u32, slices: &[u16]) {
+fn how_many(rt: &impl Print, what: &[u8], w: u32, h: u32, slices: &[u16]) -> io::Result<()> {
     let mut turns = 77u32;
-    tell(what, jiwarbend_turns(w, h, slices, &mut turns));
-    tell(b"  turns", turns);
+    tell(rt, what, jiwarbend_turns(w, h, slices, &mut turns))?;
+    tell(rt, b"  turns", turns)
 }
 
 // The same of a slice map of 8160 in one slice.
-fn how_many_8160(what: &[u8], w: u32, h: u32) {
-    how_many(what, w, h, &[0u16; 8160]);
+fn how_many_8160(rt: &impl Print, what: &[u8], w: u32, h: u32) -> io::Result<()> {
+    how_many(rt, what, w, h, &[0u16; 8160])
 }
 
-pub(crate) fn how_many_turns() {
-    how_many(b"turns, 3 by 2 in one slice", 3, 2, &[0u16; 6]);
-    sliced();
-    columns();
-    how_many_8160(b"turns, 120 by 68 in one slice", 120, 68);
-    refused_sizes();
-    how_many(b"turns, 3 by 2, a slice map of 5", 3, 2, &[0u16; 5]);
-    how_many(b"turns, 3 by 2, a slice map of 7", 3, 2, &[0u16; 7]);
+pub(crate) fn how_many_turns(rt: &impl Print) -> io::Result<()> {
+    how_many(rt, b"turns, 3 by 2 in one slice", 3, 2, &[0u16; 6])?;
+    sliced(rt)?;
+    columns(rt)?;
+    how_many_8160(rt, b"turns, 120 by 68 in one slice", 120, 68)?;
+    refused_sizes(rt)?;
+    how_many(rt, b"turns, 3 by 2, a slice map of 5", 3, 2, &[0u16; 5])?;
+    how_many(rt, b"turns, 3 by 2, a slice map of 7", 3, 2, &[0u16; 7])
 }
 
-fn sliced() {
+fn sliced(rt: &impl Print) -> io::Result<()> {
     how_many(
+        rt,
         b"turns, 3 by 2, a slice for each row",
         3,
         2,
         &[0u16, 0, 0, 1, 1, 1],
-    );
+    )?;
     how_many(
+        rt,
         b"turns, 3 by 2, a slice from the third macroblock on",
         3,
         2,
         &[0u16, 0, 1, 1, 1, 1],
-    );
-    how_many(b"turns, 2 by 1 in two slices", 2, 1, &[0u16, 1]);
+    )?;
+    how_many(rt, b"turns, 2 by 1 in two slices", 2, 1, &[0u16, 1])
 }
 
-fn columns() {
-    how_many(b"turns, 1 by 3 in one slice", 1, 3, &[0u16; 3]);
-    how_many(b"turns, 1 by 3 in three slices", 1, 3, &[0u16, 1, 2]);
-    how_many(b"turns, 1 by 1", 1, 1, &[65535u16; 1]);
-    how_many(b"turns, 1 by 68 in one slice", 1, 68, &[0u16; 68]);
+fn columns(rt: &impl Print) -> io::Result<()> {
+    how_many(rt, b"turns, 1 by 3 in one slice", 1, 3, &[0u16; 3])?;
+    how_many(rt, b"turns, 1 by 3 in three slices", 1, 3, &[0u16, 1, 2])?;
+    how_many(rt, b"turns, 1 by 1", 1, 1, &[65535u16; 1])?;
+    how_many(rt, b"turns, 1 by 68 in one slice", 1, 68, &[0u16; 68])
 }
 
-fn refused_sizes() {
-    how_many_8160(b"turns, 121 by 68", 121, 68);
-    how_many_8160(b"turns, 120 by 69", 120, 69);
-    how_many(b"turns, 0 by 1, no slices", 0, 1, &[0u16; 0]);
+fn refused_sizes(rt: &impl Print) -> io::Result<()> {
+    how_many_8160(rt, b"turns, 121 by 68", 121, 68)?;
+    how_many_8160(rt, b"turns, 120 by 69", 120, 69)?;
+    how_many(rt, b"turns, 0 by 1, no slices", 0, 1, &[0u16; 0])
 }

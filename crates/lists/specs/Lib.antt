@@ -1,2 +1,3 @@
--- What the bytes of a list of answers say.
+-- What the bytes of a list of answers say, and what reading them leaves.
+pub mod Input
 pub mod Numbers

@@ -1,16 +1,42 @@
 // What the programs that replay a list of answers share. A list comes on standard input in parts; a part is the number of its cases and the cases.
-ghost use Rattle.std.specs.Prelude.{◌≡◌, true, cond, ◌+◌, ◌≤◌, ◌<◌, eqb, length};
+#![tactic(auto)]
+
+ghost use Rattle.std.specs.Prelude.{◌≡◌, true, cond, ◌+◌, ◌*◌, ◌≤◌, ◌<◌, eqb, length, take, slice_index, IfSome, IfOk, OnErr};
+ghost use Rattle.std.specs.Io.KnownBytes.{Consumes, IsAtEnd};
+ghost use Rattle.lists.specs.Input.{ConsumesSome};
 ghost use Rattle.lists.specs.Numbers.{number_of, number_at, numbers_of, is_set};
 
-use libc::{STDIN_FILENO, STDOUT_FILENO};
+use std::io;
+use std::io::Read;
+
+// Reads until the room is full or the input ends, and returns how many bytes it put at the start of the room.
+pub fn read_full<R: Read>(input: &mut R, room: &mut [u8]) -> io::Result<usize>
+    ensures bound { IfOk result (λ n. n ≤ length room.new) }
+    ensures bytes { IfOk result (λ n. Consumes (R.remaining input.old) (R.remaining input.new) (take n room.new)) }
+    ensures end { IfOk result (λ n. n < length room.new → IsAtEnd (R.remaining input.new)) }
+    ensures err { OnErr result (ConsumesSome (R.remaining input.old) (R.remaining input.new)) }
+{
+    let mut done = 0;
+    while done < room.len() {
+        let n = input.read(&mut room[done..])?;
+        if n == 0 {
+            break;
+        }
+        done += n;
+    }
+    Ok(done)
+}
 
 // The number of a part's cases, with which it begins: two bytes, the lower first.
-pub fn how_many() -> u32
-    ensures { result ≤ 65535 }
+pub fn how_many<R: Read>(input: &mut R) -> io::Result<u32>
+    ensures limit { IfOk result (λ n. n ≤ 65535) }
+    ensures bytes { IfOk result (λ n. IfSome (R.remaining input.old)
+        (λ xs. 2 ≤ length xs → n ≡ slice_index xs 0 + 256 * slice_index xs 1)) }
+    ensures err { OnErr result (ConsumesSome (R.remaining input.old) (R.remaining input.new)) }
 {
     let mut head = [0u8; 2];
-    io::read_full(STDIN_FILENO, &mut head);
-    wide(head[0]) + 256 * wide(head[1])
+    read_full(input, &mut head)?;
+    Ok(wide(head[0]) + 256 * wide(head[1]))
 }
 
 // One more case that differs, as far as a part can have them.
@@ -21,13 +47,9 @@ pub fn more(n: u32) -> u32
 }
 
 // The line of a part: its name, how many cases it had, and in how many of them the answer is another one.
-pub fn tell(name: &[u8], cases: u32, wrong: u32) {
-    io::write_all(STDOUT_FILENO, name);
-    io::write_all(STDOUT_FILENO, b": ");
-    io::print_decimal(STDOUT_FILENO, cases as u64);
-    io::write_all(STDOUT_FILENO, b" cases, ");
-    io::print_decimal(STDOUT_FILENO, wrong as u64);
-    io::write_all(STDOUT_FILENO, b" differ\n");
+pub fn tell(rt: &impl Print, name: &[u8], cases: u32, wrong: u32) -> io::Result<()> {
+    rt.write_all(name)?;
+    println!(rt; ": {cases} cases, {wrong} differ")
 }
 
 // A byte as a wider number.

@@ -4,78 +4,93 @@
 ghost use Rattle.std.specs.Prelude.{◌≡◌, ◌+◌, ◌*◌};
 ghost use Rattle.lists.specs.Numbers.{is_set};
 
-use libc::STDIN_FILENO;
-use lists::{marked, same, wide};
+use lists::{marked, read_full, same, wide};
 use macroblock::Strides;
 use maps::neighbours::Marks;
+use std::io;
+use std::io::Read;
 
 // Whether the port gives the next case's answer and leaves every byte of the planes as the list has it.
-pub(crate) fn next_agrees() -> bool {
+pub(crate) fn next_agrees(input: &mut impl Read) -> io::Result<bool> {
     let mut head = [0u8; 6];
     let mut modes = [0u8; 16];
     let mut sizes = [0u8; 12];
     let mut bytes = [0u8; 1152];
-    io::read_full(STDIN_FILENO, &mut head);
-    io::read_full(STDIN_FILENO, &mut modes);
-    io::read_full(STDIN_FILENO, &mut sizes);
-    io::read_full(STDIN_FILENO, &mut bytes);
+    read_full(input, &mut head)?;
+    read_full(input, &mut modes)?;
+    read_full(input, &mut sizes)?;
+    read_full(input, &mut bytes)?;
     let mut luma = [0u8; 2048];
     let mut cb = [0u8; 512];
     let mut cr = [0u8; 512];
-    if !read(&sizes, &mut luma, &mut cb, &mut cr) {
-        return false;
+    if !read(input, &sizes, &mut luma, &mut cb, &mut cr)? {
+        return Ok(false);
     }
     let mut luma_after = luma;
     let mut cb_after = cb;
     let mut cr_after = cr;
     if !read_after(
+        input,
         head[0],
         &sizes,
         &mut luma_after,
         &mut cb_after,
         &mut cr_after,
-    ) {
-        return false;
+    )? {
+        return Ok(false);
     }
     let mut numbers = [0i32; 384];
     lists::numbers(&bytes, &mut numbers);
     let answer = rebuild(&head, &modes, &sizes, &numbers, &mut luma, &mut cb, &mut cr);
     if answer != wide(head[0]) {
-        return false;
+        return Ok(false);
     }
     if !same(&luma, &luma_after) {
-        return false;
+        return Ok(false);
     }
     if !same(&cb, &cb_after) {
-        return false;
+        return Ok(false);
     }
-    same(&cr, &cr_after)
+    Ok(same(&cr, &cr_after))
 }
 
 // Reads three planes of the lengths that the sizes give.
-fn read(sizes: &[u8; 12], luma: &mut [u8], cb: &mut [u8], cr: &mut [u8]) -> bool {
-    if !read_plane(two(sizes[2], sizes[3]), luma) {
-        return false;
+fn read(
+    input: &mut impl Read,
+    sizes: &[u8; 12],
+    luma: &mut [u8],
+    cb: &mut [u8],
+    cr: &mut [u8],
+) -> io::Result<bool> {
+    if !read_plane(input, two(sizes[2], sizes[3]), luma)? {
+        return Ok(false);
     }
-    if !read_plane(two(sizes[6], sizes[7]), cb) {
-        return false;
+    if !read_plane(input, two(sizes[6], sizes[7]), cb)? {
+        return Ok(false);
     }
-    read_plane(two(sizes[10], sizes[11]), cr)
+    read_plane(input, two(sizes[10], sizes[11]), cr)
 }
 
 // Reads the planes after the call; a refused one leaves them as they were.
-fn read_after(answer: u8, sizes: &[u8; 12], luma: &mut [u8], cb: &mut [u8], cr: &mut [u8]) -> bool {
+fn read_after(
+    input: &mut impl Read,
+    answer: u8,
+    sizes: &[u8; 12],
+    luma: &mut [u8],
+    cb: &mut [u8],
+    cr: &mut [u8],
+) -> io::Result<bool> {
     if answer != 0 {
-        return true;
+        return Ok(true);
     }
-    read(sizes, luma, cb, cr)
+    read(input, sizes, luma, cb, cr)
 }
 
-fn read_plane(len: usize, room: &mut [u8]) -> bool {
+fn read_plane(input: &mut impl Read, len: usize, room: &mut [u8]) -> io::Result<bool> {
     if len > room.len() {
-        return false;
+        return Ok(false);
     }
-    io::read_full(STDIN_FILENO, &mut room[..len]) == len
+    Ok(read_full(input, &mut room[..len])? == len)
 }
 
 // The port's answer on planes as long as the sizes say; 255 where there is no room for them.

@@ -1,42 +1,51 @@
 // Replays a list of blocks that were transformed outside the project (README.md says how it was made): each part has the blocks of one inverse, and each
 // line of the output says how many it had and in how many of them the library's residuals are other ones. The last part holds a wrong number on purpose:
 // its line says that one case differs.
+#![tactic(auto)]
+
 ghost use Rattle.std.specs.Prelude.{◌≤◌};
 
-use libc::STDIN_FILENO;
 use lists::{numbers, same_numbers, wide};
+use std::io;
+use std::io::Read;
 
 // A part: how many coefficients its blocks have, the bytes of a case, and its name.
-fn part(coefficients: u8, size: usize, name: &[u8])
+fn part(
+    rt: &impl Print,
+    input: &mut impl Read,
+    coefficients: u8,
+    size: usize,
+    name: &[u8],
+) -> io::Result<()>
     requires { size ≤ 4096 }
 {
-    let mut room = io::buffer();
-    let n = lists::how_many();
-    let wrong = replay(coefficients, n, &mut room[..size]);
-    lists::tell(name, n, wrong);
+    let mut room = [0u8; 4096];
+    let n = lists::how_many(input)?;
+    let wrong = replay(input, coefficients, n, &mut room[..size])?;
+    lists::tell(rt, name, n, wrong)
 }
 
 // How many of the next n cases, each as long as the room for it, differ.
-fn replay(coefficients: u8, n: u32, room: &mut [u8]) -> u32 {
+fn replay(input: &mut impl Read, coefficients: u8, n: u32, room: &mut [u8]) -> io::Result<u32> {
     let mut wrong = 0;
     for k in 0..n {
-        if !next_agrees(coefficients, room) {
+        if !next_agrees(input, coefficients, room)? {
             wrong = lists::more(wrong);
         }
     }
-    wrong
+    Ok(wrong)
 }
 
-fn next_agrees(coefficients: u8, room: &mut [u8]) -> bool {
+fn next_agrees(input: &mut impl Read, coefficients: u8, room: &mut [u8]) -> io::Result<bool> {
     let size = room.len();
-    let got = io::read_full(STDIN_FILENO, room);
+    let got = lists::read_full(input, room)?;
     if got != size {
-        return false;
+        return Ok(false);
     }
     if coefficients == 16 {
-        inverse_4x4(room)
+        Ok(inverse_4x4(room))
     } else {
-        inverse_8x8(room)
+        Ok(inverse_8x8(room))
     }
 }
 
@@ -74,8 +83,9 @@ fn inverse_8x8(c: &[u8]) -> bool {
     same_numbers(&out, &wanted)
 }
 
-fn main() {
-    part(16, 97, b"inverse_4x4");
-    part(64, 385, b"inverse_8x8");
-    part(64, 385, b"a wrong number, on purpose");
+fn main(rt: HostRuntime) -> io::Result<()> {
+    let mut input = rt.reader();
+    part(&rt, &mut input, 16, 97, b"inverse_4x4")?;
+    part(&rt, &mut input, 64, 385, b"inverse_8x8")?;
+    part(&rt, &mut input, 64, 385, b"a wrong number, on purpose")
 }

@@ -1,0 +1,12 @@
+use Rattle.std.proofs.Common.{arith}
+use Rattle.std.proofs.lemmas.Grind.{common_steps}
+use Rattle.lists.specs.Numbers.{number_at}
+use Rattle.lists.proofs.number_at.Goals as goal
+
+pub returns-then-k-c : goal.returns-then-k-c
+unfolding number_at
+returns-then-k-c c = grind (arith, common_steps)
+
+pub returns : goal.returns
+unfolding number_at
+returns c = grind (arith, common_steps)
