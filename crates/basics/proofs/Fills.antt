@@ -10,10 +10,6 @@ use Rattle.laws.specs.Table.{table, block_of, onto}
 use Rattle.laws.proofs.Ontos.{onto_none, onto_all, onto_long, onto_row}
 use Rattle.laws.proofs.Tables.{table_const}
 
--- every place
-pub fill_all : (k v : ℕ) (l : List ℕ) {l' : List ℕ} → length l ≡ k → l' ≡ onto k (λ _. v) l → l' ≡ replicate (length l) v
-fill_all k v l e q = q ∙ onto_all k (λ _. v) l e ∙ table_const k v ∙ ap (λ n. replicate n v) (sym e)
-
 -- those from a on, up to e
 pub fill_part : (a e v : ℕ) (g : ℕ → ℕ) (l l' : List ℕ) {ys : List ℕ} → a ≤ e → e ≤ length l → l' ≡ onto a g l → ys ≡ replicate (length (mid_of a (e - a) l')) v
     → ((i : ℕ) → i < e - a → v ≡ g (a + i)) → put_mid a (e - a) l' ys ≡ onto e g l

@@ -2,5 +2,5 @@
 pub mod Clipped
 pub mod Dc
 pub mod Fills
-pub mod Modes
+pub mod Permits
 pub mod Near

@@ -1,15 +1,13 @@
 -- Numbers of coefficients: the context n_c of clause 9.2.1, and their order in a macroblock.
-use Rattle.std.specs.Prelude.{List, ℕ, ◌+◌, ◌*◌, ◌/◌, ◌%◌, get_or}
+use Rattle.std.specs.Prelude.{List, ℕ, Option, Some, None, ◌+◌, ◌*◌, ◌/◌, ◌%◌, get_or}
 use Rattle.laws.specs.Table.{table}
-use Rattle.basics.specs.declared.nnz.Neighbor.{Neighbor}
-use Rattle.basics.specs.declared.nnz.Neighbor.TheVariants.{Absent, Count}
 
 -- 9.2.1: from nA of the block to the left and nB of the block above, the rounded-up mean, the one that is there, or 0
-abbrev pub n_c : Neighbor → Neighbor → ℕ
-n_c (Count nA) (Count nB) = (nA + nB + 1) / 2
-n_c (Count nA) Absent = nA
-n_c Absent (Count nB) = nB
-n_c Absent Absent = 0
+abbrev pub n_c : Option ℕ → Option ℕ → ℕ
+n_c (Some nA) (Some nB) = (nA + nB + 1) / 2
+n_c (Some nA) None = nA
+n_c None (Some nB) = nB
+n_c None None = 0
 
 -- 6.4.3: the number in scan order of the 4x4 block in column x and row y of blocks. Below luma's four rows, rows 4 and 5 hold Cb in columns 0 and 1
 -- and Cr in columns 2 and 3

@@ -1,50 +1,36 @@
 // Numbers of coefficients: the context n_c (clause 9.2.1), and their order in a macroblock (clause 6.4.3).
 ghost use Rattle.std.specs.Prelude.{◌≡◌, [], ◌∷◌, eqb, pos, length};
 ghost use Rattle.laws.specs.Answer.{◌unless◌, answer, written};
+ghost use Rattle.refusals.specs.Refusal.{number_of};
 ghost use Rattle.basics.specs.Nnz.{n_c, in_raster};
 
-// The number of a neighbour block's coefficients, where there is such a block.
-#[derive(Drop)]
-pub enum Neighbor {
-    Count(u8),
-    Absent,
-}
+use refusals::Refusal;
 
-// The context of a block whose neighbours to the left and above have these numbers.
-pub fn nc_from_neighbors(a: Neighbor, b: Neighbor) -> i32
+// The context of a block whose neighbours to the left and above have these numbers, where there are such blocks.
+pub fn nc_from_neighbors(a: Option<u8>, b: Option<u8>) -> i32
     ensures { result ≡ pos (n_c a b) }
 {
-    match a {
-        Neighbor::Count(na) => match b {
-            Neighbor::Count(nb) => (na as i32 + nb as i32 + 1) >> 1,
-            Neighbor::Absent => na as i32,
-        },
-        Neighbor::Absent => match b {
-            Neighbor::Count(nb) => nb as i32,
-            Neighbor::Absent => 0,
-        },
+    match (a, b) {
+        (Some(na), Some(nb)) => (i32::from(na) + i32::from(nb) + 1) >> 1,
+        (Some(n), None) | (None, Some(n)) => i32::from(n),
+        (None, None) => 0,
     }
 }
 
 // The numbers of a macroblock's 24 blocks, from scan order to raster order, put into lent memory.
-pub fn nnz_raster_from_z(n: &[u8], out: &mut [u8]) -> u32
-    ensures value { result ≡ answer (2 unless eqb (length n.now) 24 ∷ 2 unless eqb (length out.old) 24 ∷ []) }
-    ensures out_after { out.new ≡ written result out.old (in_raster n.now) }
+pub fn nnz_raster_from_z(n: &[u8], out: &mut [u8]) -> Result<(), Refusal>
+    ensures value { number_of result ≡ answer (2 unless eqb (length n.now) 24 ∷ 2 unless eqb (length out.old) 24 ∷ []) }
+    ensures out_after { out.new ≡ written (number_of result) out.old (in_raster n.now) }
 {
-    if n.len() != 24 {
-        return 2;
+    if n.len() != 24 || out.len() != 24 {
+        return Err(Refusal::Room);
     }
-    if out.len() != 24 {
-        return 2;
-    }
-    let raster = in_raster(n);
-    for k in 0..24 {
-        out[k] = raster[k];
-    }
-    0
+    out.copy_from_slice(&in_raster(n));
+    Ok(())
 }
 
 // The same in an array: all are read before one is put, so that the compiler moves them at once.
+#[tactic(auto, unfolding(crate::specs::Nnz::in_raster, laws::specs::Table::table))]
 fn in_raster(n: &[u8]) -> [u8; 24]
     requires { length n.now ≡ 24 }
     ensures { result ≡ in_raster n.now }

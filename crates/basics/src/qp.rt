@@ -2,10 +2,10 @@
 ghost use Rattle.std.specs.Prelude.{◌≡◌};
 ghost use Rattle.basics.specs.Qp.{QPc};
 
-#[derive(Drop)]
+#[derive(Clone, Copy, Debug, PartialEq, Eq)]
 pub struct LumaQp(pub u8);
 
-#[derive(Drop)]
+#[derive(Clone, Copy, Debug, PartialEq, Eq)]
 pub struct ChromaQp(pub u8);
 
 const QPC: [u8; 22] = [
@@ -13,6 +13,8 @@ const QPC: [u8; 22] = [
 ];
 
 // The chroma QP of a luma QP, with an index offset of 0. A QP above 51 is taken as 51.
+#[inline]
+#[tactic(auto, unfolding(crate::specs::Qp::QPc, crate::specs::Qp::table815))]
 pub fn chroma_qp(qp: LumaQp) -> ChromaQp
     ensures { result.0 ≡ QPc qp.0 }
 {
@@ -20,9 +22,6 @@ pub fn chroma_qp(qp: LumaQp) -> ChromaQp
     if q < 30 {
         return ChromaQp(q);
     }
-    if q > 51 {
-        return ChromaQp(39);
-    }
-    let i = (q - 30) as usize;
+    let i = usize::from((q - 30).min(21));
     ChromaQp(QPC[i])
 }

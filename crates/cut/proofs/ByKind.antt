@@ -1,7 +1,7 @@
 -- What holds of each kind: 0, 1, and any other, which counts as 2. Assumes nothing.
 use mathlib.Core.Path.{◌≡◌, refl}
 use mathlib.Core.Logic.{◌≢◌}
-use Prim.Native.Nat.{ℕ, zero, suc, ◌*◌, ◌≤◌}
+use Prim.Native.Nat.{ℕ, zero, suc, ◌*◌, ◌≤◌, ◌<◌}
 use native.Mathlib.Omega.{arith}
 use Rattle.cut.specs.Cut.{cut_for, used}
 use Rattle.cut.specs.inner.Blocks.{Scan}
@@ -32,3 +32,14 @@ pub used_few : (kind : ℕ) → used kind ≤ 16
 used_few zero = omega arith
 used_few (suc zero) = omega arith
 used_few (suc (suc _)) = omega arith
+
+-- a number above 2 counts as 2
+pub used_past : (n : ℕ) → 2 < n → used n ≡ used 2
+used_past zero h = absurd (omega arith)
+used_past (suc zero) h = absurd (omega arith)
+used_past (suc (suc _)) h = refl
+
+pub cut_past : (n : ℕ) → 2 < n → cut_for n ≡ cut_for 2
+cut_past zero h = absurd (omega arith)
+cut_past (suc zero) h = absurd (omega arith)
+cut_past (suc (suc _)) h = refl

@@ -5,3 +5,4 @@ pub mod done; // which macroblocks are done
 pub mod neighbours; // 6.4.9: neighbouring macroblocks
 pub mod progress; // the progress record, starting and accepting
 pub mod size; // sizes and places
+pub mod slice_map; // a size with a slice map that fits it

@@ -3,11 +3,10 @@ ghost use Rattle.std.specs.Prelude.{◌≡◌, true, ◌&&◌, ◌-◌, ◌≤�
 ghost use Rattle.maps.specs.Neighbours.{marks_of, available, mapped, marks_at};
 ghost use Rattle.maps.specs.Size.{address};
 
-use super::size::{place_ok, size_ok};
-use basics::tests::both;
+use super::size::{Spot, place_ok, size_ok};
 
 // The marks of the neighbours: whether A (left), B (above), C (above-right) and D (above-left) are available.
-#[derive(Clone, Copy)]
+#[derive(Clone, Copy, Debug, Default, PartialEq, Eq)]
 pub struct Marks {
     pub a: bool,
     pub b: bool,
@@ -15,30 +14,30 @@ pub struct Marks {
     pub d: bool,
 }
 
-// The marks of macroblock (x, y): none where the size, the slice map's length or the place breaks the rules.
-pub fn marks_of(slices: &[u16], w: u32, h: u32, x: u32, y: u32) -> Marks
-    ensures { marks_of result ≡ marks_at w h slices.now x y }
+// The marks of a macroblock: none where the size, the slice map's length or the place breaks the rules.
+#[inline]
+#[tactic(auto, using(crate::proofs::Beside::mapped_is, crate::proofs::Sizes::address_inside))]
+pub fn marks_of(slices: &[u16], spot: Spot) -> Marks
+    ensures { marks_of result ≡ marks_at spot.w spot.h slices.now spot.x spot.y }
 {
-    if !is_mapped(w, h, slices.len(), x, y) {
-        return Marks {
-            a: false,
-            b: false,
-            c: false,
-            d: false,
-        };
+    if !is_mapped(spot, slices.len()) {
+        return Marks::default();
     }
-    marks_inside(slices, w as usize, x as usize, y as usize)
+    marks_inside(slices, spot.w as usize, spot.x as usize, spot.y as usize)
 }
 
 // Whether the size, a slice map of so many entries and the place keep the rules.
-fn is_mapped(w: u32, h: u32, entries: usize, x: u32, y: u32) -> bool
-    ensures { result ≡ mapped w h entries x y }
+#[inline]
+#[tactic(auto, unfolding(crate::specs::Neighbours::mapped))]
+fn is_mapped(spot: Spot, entries: usize) -> bool
+    ensures { result ≡ mapped spot.w spot.h entries spot.x spot.y }
 {
-    let total = (h as usize) * (w as usize);
-    both(both(size_ok(w, h), entries == total), place_ok(w, h, x, y))
+    let total = (spot.h as usize) * (spot.w as usize);
+    size_ok(spot.w, spot.h) && entries == total && place_ok(spot)
 }
 
 // The marks of a macroblock that lies in the slice map.
+#[inline]
 fn marks_inside(slices: &[u16], w: usize, x: usize, y: usize) -> Marks
     requires { (x < w) × (w ≤ 120) × (address w x y < length slices.now) }
     ensures { marks_of result ≡ available w slices.now x y }
@@ -52,16 +51,10 @@ fn marks_inside(slices: &[u16], w: usize, x: usize, y: usize) -> Marks
 }
 
 // Whether the macroblock `back` before `here` lies in the picture, that is, in one of its rows and columns, and has the same slice number.
+#[inline]
 fn same_slice(slices: &[u16], here: usize, row: bool, column: bool, back: usize) -> bool
     requires { (here < length slices.now) × (row && column ≡ true → back ≤ here) }
     ensures { result ≡ row && column && eqb (get_or slices.now (here - back) 0) (get_or slices.now here 0) }
 {
-    if !row {
-        return false;
-    }
-    if !column {
-        return false;
-    }
-    let there = here - back;
-    slices[there] == slices[here]
+    row && column && slices[here - back] == slices[here]
 }

@@ -2,10 +2,8 @@
 ghost use Rattle.std.specs.Prelude.{◌≡◌};
 ghost use Rattle.maps.specs.Size.{size_ok, place_ok};
 
-use basics::tests::both;
-
 // Where a macroblock stands: the picture's size, and the macroblock's column and row.
-#[derive(Clone, Copy)]
+#[derive(Clone, Copy, Debug, PartialEq, Eq)]
 pub struct Spot {
     pub w: u32,
     pub h: u32,
@@ -14,15 +12,17 @@ pub struct Spot {
 }
 
 // Whether W is 1..120 and H is 1..68.
+#[tactic(auto, unfolding(crate::specs::Size::size_ok))]
 pub fn size_ok(w: u32, h: u32) -> bool
     ensures { result ≡ size_ok w h }
 {
-    both(both(both(w >= 1, w <= 120), h >= 1), h <= 68)
+    w >= 1 && w <= 120 && h >= 1 && h <= 68
 }
 
 // Whether (x, y) is a macroblock of the picture.
-pub fn place_ok(w: u32, h: u32, x: u32, y: u32) -> bool
-    ensures { result ≡ place_ok w h x y }
+#[tactic(auto, unfolding(crate::specs::Size::place_ok))]
+pub fn place_ok(spot: Spot) -> bool
+    ensures { result ≡ place_ok spot.w spot.h spot.x spot.y }
 {
-    both(x < w, y < h)
+    spot.x < spot.w && spot.y < spot.h
 }

@@ -3,20 +3,8 @@ use mathlib.Core.Path.{◌≡◌, ◌∙◌}
 use native.Mathlib.Omega.{arith}
 use Rattle.maps.specs.Neighbours.{Side, marks_of, available}
 use Rattle.maps.specs.Neighbours.Side.{A, B, C, D}
-use Rattle.maps.proofs.Beside.{beside_at, available_is}
+use Rattle.maps.proofs.Beside.{available_is}
 use Rattle.maps.proofs.neighbours.marks_inside.Goals as goal
-
-pub same_slice-a-requires : goal.same_slice-a-requires
-same_slice-a-requires c = let a = c.args in (omega arith, λ t. (beside_at a.w a.x a.y (omega arith) A t).back)
-
-pub same_slice-b-requires : goal.same_slice-b-requires
-same_slice-b-requires c = let a = c.args in (omega arith, λ t. (beside_at a.w a.x a.y (omega arith) B t).back)
-
-pub same_slice-c-requires : goal.same_slice-c-requires
-same_slice-c-requires c = let a = c.args in (omega arith, λ t. (beside_at a.w a.x a.y (omega arith) C t).back)
-
-pub same_slice-d-requires : goal.same_slice-d-requires
-same_slice-d-requires c = let a = c.args in (omega arith, λ t. (beside_at a.w a.x a.y (omega arith) D t).back)
 
 pub returns : goal.returns
 returns c = λ i k. each k i
