@@ -3,6 +3,7 @@ use mathlib.Core.Path.{◌≡◌, refl, sym, ap, ◌∙◌, subst}
 use mathlib.Core.Bool.{Bool, true, false, cond, ◌&&◌}
 use mathlib.Core.List.{List}
 use Prim.Native.Nat.{ℕ, suc, ◌+◌, ◌-◌, ◌^◌, ◌≤◌, ◌<◌}
+use native.Mathlib.Nat.{add-zero}
 use native.Mathlib.Omega.{arith}
 use borrow.Author.Tests.{le-leb, leb-true}
 use lib.Bits.{bit_or, or_lt, or_add_and, and_le_l, and_le_r}
@@ -15,7 +16,7 @@ use lib.ListN.{length}
 use lib.Signed.{lt_z, mag, non_neg}
 use Rattle.laws.specs.Range.{Within, at}
 use Rattle.laws.proofs.Tests.{true_t, T_true, same_test, and_left, and_right, and_of, not_both, no_from, all_same}
-use Rattle.numbers.specs.Numbers.{in_range, all_in_range, all_of, is_zero, last_in_range, last_mag, near, held}
+use Rattle.numbers.specs.Numbers.{in_range, all_in_range, all_of, is_zero, last_in_range, mag_and, near, held}
 use Rattle.numbers.proofs.InRange.{in_range_all}
 
 -- ---- binary digits put together
@@ -59,14 +60,26 @@ near_range (negsuc n) = leb-suc-suc n 32767 ∙ all (leb n 32767)
     all true = refl
     all false = refl
 
-pub last_range : (z : ℤ) → held (last_mag z) ≡ last_in_range z
-unfolding last_mag last_in_range
+pub last_range : (z : ℤ) → held (mag_and 32 z) ≡ last_in_range z
+unfolding mag_and last_in_range
 last_range (pos n) = same_test _ _ (λ t. true_t _ (le-leb n 32735 (omega (arith, leb-true (suc (n + 32)) 32768 (T_true _ t))))) (λ t. true_t _ (le-leb (suc (n + 32)) 32768 (omega (arith, leb-true n 32735 (T_true _ t)))))
 last_range (negsuc n) = leb-suc-suc n 32767 ∙ all (leb n 32767)
   where
     all : (t : Bool) → t ≡ t && true
     all true = refl
     all false = refl
+
+pub mag_and_none : (z : ℤ) → mag_and 0 z ≡ mag z
+unfolding mag_and
+mag_and_none (pos n) = add-zero n
+mag_and_none (negsuc n) = refl
+
+pub near_alone : (k : ℕ) (s : List ℤ) → all_of (λ z. ltb (mag_and 0 z) (2 ^ k)) s ≡ all_of (near k) s
+unfolding near
+near_alone k s = all_same (length s) _ _ (λ j _. ap (λ m. ltb m (2 ^ k)) (mag_and_none (at s j)))
+
+pub last_each : (s : List ℤ) → all_of (λ z. held (mag_and 32 z)) s ≡ all_of last_in_range s
+last_each s = all_same (length s) _ _ (λ j _. last_range (at s j))
 
 pub near_each : (s : List ℤ) → all_of (near 15) s ≡ all_of in_range s
 near_each s = all_same (length s) _ _ (λ k _. near_range (at s k))
@@ -108,10 +121,10 @@ module _ (v : ℤ) (f : SFits w32 v) where
       let a = above v (ap (λ z. lt_z z (pos 0)) (sym (to_z-of_z f)) ∙ e) in
       (a, subst (λ z. Word z (mag v)) (sym a) (word (mag v) f.sfits))
 
-  pub last_below : lt_z (to_z w32 (of_z w32 v)) (pos 0) ≡ true → mag v ≡ last_mag v
-  unfolding last_mag
-  last_below e = go v (ap (λ z. lt_z z (pos 0)) (sym (to_z-of_z f)) ∙ e)
+  pub mag_below : (m : ℕ) → lt_z (to_z w32 (of_z w32 v)) (pos 0) ≡ true → mag v ≡ mag_and m v
+  unfolding mag_and
+  mag_below m e = go v (ap (λ z. lt_z z (pos 0)) (sym (to_z-of_z f)) ∙ e)
     where
-      go : (v : ℤ) → lt_z v (pos 0) ≡ true → mag v ≡ last_mag v
+      go : (v : ℤ) → lt_z v (pos 0) ≡ true → mag v ≡ mag_and m v
       go (pos n) e = absurd (not_both e (leb-suc-zero n))
       go (negsuc n) e = refl

@@ -1,6 +1,6 @@
 -- Numbers in range: what a list of them says of each, and how a loop shows it. Assumes nothing.
 use mathlib.Core.Path.{◌≡◌, refl, ap, ◌∙◌}
-use mathlib.Core.Bool.{true, ◌&&◌}
+use mathlib.Core.Bool.{true, false, ◌&&◌}
 use mathlib.Core.List.{List, [], ◌∷◌}
 use Prim.Native.Nat.{ℕ, zero, suc, ◌+◌, ◌<◌, ◌≤◌}
 use native.Mathlib.Omega.{arith}
@@ -16,7 +16,7 @@ use Rattle.laws.specs.Range.{Within, AllWithin, at, minus}
 use Rattle.laws.proofs.Stretches.{part_at}
 use Rattle.laws.proofs.Ints.{up, dn, parts_add, parts_neg, parts_pos}
 use Rattle.laws.proofs.Tests as tests
-use Rattle.laws.proofs.Tests.{true_t, T_true, same_test, and_left, and_right, and_of, all_of_lem}
+use Rattle.laws.proofs.Tests.{true_t, T_true, same_test, and_left, and_right, and_of, no_from, all_of_lem}
 use Rattle.numbers.specs.Numbers.{in_range, all_in_range, all_of, last_in_range}
 
 pub in_range_within : (z : ℤ) → in_range z ≡ true → Within 32768 z
@@ -29,6 +29,14 @@ pub in_range_short : (z : ℤ) → in_range z ≡ true → SFits w16 z
 unfolding in_range
 in_range_short (pos n) e = record { sfits = omega (arith, leb-true n 32767 (and_right (le_z (minus 32768) (pos n)) (leb n 32767) e)) }
 in_range_short (negsuc n) e = record { sfits = omega (arith, leb-true n 32767 (and_left (leb n 32767) true e)) }
+
+pub short_in_range : (z : ℤ) → SFits w16 z → in_range z ≡ true
+unfolding in_range
+short_in_range (pos n) f = le-leb n 32767 (omega (arith, f.sfits))
+short_in_range (negsuc n) f = and_of (le-leb n 32767 (omega (arith, f.sfits))) refl
+
+pub long_out : (z : ℤ) → (SFits w16 z → ⊥) → in_range z ≡ false
+long_out z h = no_from (in_range z) (in_range_short z) h
 
 -- a number in range by its parts, both ways
 in_parts : (z : ℤ) → in_range z ≡ true → (up z ≤ 32767 + dn z) × (dn z ≤ 32768 + up z)

@@ -28,10 +28,10 @@ last_in_range z = le_z (minus 32768) z && le_z z (pos 32735)
 unfoldable pub near : ℕ → ℤ → Bool
 near k z = ltb (mag z) (2 ^ k)
 
--- that of a value after the second pass, with the 32 where it counts
-unfoldable pub last_mag : ℤ → ℕ
-last_mag (pos n) = n + 32
-last_mag (negsuc n) = n
+-- the magnitude with m more where the number is not negative: of a value after the second pass these are the 32 of its rounding
+unfoldable pub mag_and : ℕ → ℤ → ℕ
+mag_and m (pos n) = n + m
+mag_and m (negsuc n) = n
 
 -- -2048..2047: coefficients of a 4x4 block that no value on the way to its residuals leaves the range with
 abbrev pub is_small : ℤ → Bool

@@ -17,6 +17,7 @@ use Rattle.numbers.proofs.InRange.{in_range_within, in_range_short, halves, last
 use Rattle.numbers.proofs.InRange as numbers
 use Rattle.residual.specs.Fits4x4.{Fits4x4}
 use Rattle.residual.specs.Inverse.{second_step, e_row, f_row, g_column, h_column, inverse4x4, in_range4x4}
+use Rattle.residual.specs.inner.Laws.{of_16}
 use Rattle.residual.proofs.Transform.{rounded_small, e_same, f_same, g_same, h_same}
 
 -- ---- the values of the second step tell of those of the first
@@ -89,7 +90,7 @@ module _ (d : List ℤ) where
 
   -- a block in range has its numbers in range
   pub in_numbers : length d ≡ 16 → in_range4x4 d ≡ true → all_in_range d ≡ true
-  in_numbers n e = numbers.all_true d (λ k h. (says e).d_in k (omega (arith, n)))
+  in_numbers n e = of_16.numbers d n e
 
   -- ---- sixteen bits
   pub fits_4x4 : in_range4x4 d ≡ true → Fits4x4 d

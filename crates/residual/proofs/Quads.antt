@@ -8,12 +8,13 @@ use native.Mathlib.Nat.{zero-add}
 use native.Mathlib.Omega.{arith}
 use borrow.Author.Tests.{leb-true}
 use borrow.Rule.Slice.PartMut.{mid_of, mid_len}
+use lib.Dec.{lit<}
 use lib.IntN.{ℤ, pos, negsuc}
 use lib.ListN.{length, replicate, get_or-replicate}
 use lib.Signed.{le_z}
 use Rattle.laws.specs.Range.{at, minus}
-use Rattle.laws.specs.Table.{table, blockwise, all_below, all_blocks}
-use Rattle.laws.proofs.Blockwise.{OfBlock, TestOfBlock, block_at, test_at}
+use Rattle.laws.specs.Table.{table, blockwise, all_below}
+use Rattle.laws.proofs.Blockwise.{OfBlock, block_at}
 use Rattle.laws.proofs.Stretches.{part_at}
 use Rattle.laws.proofs.Tables.{length_table, get_d_table, table_same, table_const}
 use Rattle.laws.proofs.Tests.{not_both, and_left, and_right, and_both, all_at, all_of_lem, all_same, all_groups}
@@ -24,61 +25,24 @@ use Rattle.residual.specs.Inverse.{rounded, inverse4x4, in_range4x4}
 use Rattle.residual.specs.Quads.{coded_quad}
 use Rattle.residual.specs.inner.Quads.{quad_inverse, quad_in_range, OnlyFirsts}
 use Rattle.residual.proofs.Agreement.{agreement}
-
--- ---- what is made of a quad is made of its 64 numbers
-quad_same : (d d' : List ℤ) → ((k : ℕ) → k < 64 → at d k ≡ at d' k) → table 64 (at d) ≡ table 64 (at d')
-quad_same d d' h = table_same 64 (at d) (at d') h
+use Rattle.residual.proofs.InQuads as quads
+use Rattle.residual.proofs.InQuads.{kth}
 
 pub quad_block : OfBlock 64 quad_inverse
 unfolding quad_inverse
-quad_block = record {
-  long = λ d. length_table (pos 0) (length (table 64 (at d))) _ ∙ length_table (pos 0) 64 (at d);
-  same = λ d d' h. ap (blockwise 16 inverse4x4) (quad_same d d' h);
-}
-
-pub quad_range : TestOfBlock 64 quad_in_range
-unfolding quad_in_range
-quad_range = record { same = λ d d' h. ap (all_blocks 16 in_range4x4) (quad_same d d' h) }
-
--- number k of the first 64
-kth : (d : List ℤ) (k : ℕ) → k < 64 → at (table 64 (at d)) k ≡ at d k
-kth d k h = get_d_table (pos 0) 64 (at d) k h
+quad_block = quads.quad_block 16 inverse4x4
 
 -- what stands at place k of a quad's residuals, and whether its blocks are in range
 pub inverse_at : (d : List ℤ) (k : ℕ) → k < 64 → at (quad_inverse d) k ≡ at (inverse4x4 (table 16 (λ i. at d (k / 16 * 16 + i)))) (k % 16)
 unfolding quad_inverse
-inverse_at d k h =
-    get_d_table (pos 0) (length (table 64 (at d))) (block_at 16 inverse4x4 (table 64 (at d))) k (omega (arith, length_table (pos 0) 64 (at d)))
-    ∙ ap (λ t. at (inverse4x4 t) (k % 16)) (table_same 16 _ _ (λ i g. kth d (k / 16 * 16 + i) (omega arith)))
+inverse_at d k h = quads.inverse_at 16 4 (lit< tt) refl inverse4x4 d k h
 
 pub range_is : (d : List ℤ) → quad_in_range d ≡ all_below 4 (λ b. in_range4x4 (table 16 (λ k. at d (16 * b + k))))
 unfolding quad_in_range
-range_is d =
-    ap (λ n. all_below (n / 16) (λ b. in_range4x4 (table 16 (λ k. at (table 64 (at d)) (16 * b + k))))) (length_table (pos 0) 64 (at d))
-    ∙ all_same 4 _ _ (λ b h. ap in_range4x4 (table_same 16 _ _ (λ k g. kth d (16 * b + k) (omega arith))))
+range_is d = quads.range_is 16 4 (lit< tt) refl in_range4x4 d
 
--- ---- the quads of a list are its blocks
+-- ---- the quads of a list
 module _ (l : List ℤ) where
-  pub quads_inverse : (i : ℕ) → block_at 64 quad_inverse l i ≡ block_at 16 inverse4x4 l i
-  quads_inverse i =
-      let q = table 64 (λ k. at l (i / 64 * 64 + k)) in
-      let r : i % 64 % 16 ≡ i % 16 = omega arith in
-      inverse_at q (i % 64) (omega arith)
-      ∙ ap₂ (λ t (m : ℕ). at (inverse4x4 t) m)
-      (table_same 16 _ _ (λ k h.
-      let m : i / 64 * 64 + (i % 64 / 16 * 16 + k) ≡ i / 16 * 16 + k = omega arith in
-      get_d_table (pos 0) 64 (λ k. at l (i / 64 * 64 + k)) (i % 64 / 16 * 16 + k) (omega arith) ∙ ap (at l) m)) r
-
-  pub quads_range : (n : ℕ) → length l ≡ 64 * n → all_below n (test_at 64 quad_in_range l) ≡ all_blocks 16 in_range4x4 l
-  quads_range n e =
-      all_same n _ _ (λ b h.
-      range_is (table 64 (λ k. at l (64 * b + k)))
-      ∙ all_same 4 _ (λ c. test_at 16 in_range4x4 l (4 * b + c)) (λ c g. ap in_range4x4 (table_same 16 _ _ (λ k m.
-      let p : 64 * b + (16 * c + k) ≡ 16 * (4 * b + c) + k = omega arith in
-      get_d_table (pos 0) 64 (λ k. at l (64 * b + k)) (16 * c + k) (omega arith) ∙ ap (at l) p))))
-      ∙ all_groups 4 n (test_at 16 in_range4x4 l)
-      ∙ (let m : 4 * n ≡ length l / 16 = omega arith in ap (λ m. all_below m (test_at 16 in_range4x4 l)) m)
-
   -- the numbers of a quad, as a part of the list
   pub quad_all : (p : ℤ → Bool) (q : ℕ) → 64 * q + 64 ≤ length l → all_of p (mid_of (64 * q) (64 * q + 64 - 64 * q) l) ≡ all_below 64 (λ k. p (at l (64 * q + k)))
   quad_all p q h =
@@ -206,11 +170,12 @@ module _ (d : List ℤ) (z : all_below 64 (λ k. is_zero (at d k)) ≡ true) whe
 
 -- a quad that is not marked has residuals that are 0
 pub blank_quad : (l : List ℤ) (q i : ℕ) → i < 64 → 64 * q + i < length l → coded_quad l q ≡ 0 → at (blockwise 16 inverse4x4 l) (64 * q + i) ≡ pos 0
+unfolding quad_inverse
 blank_quad l q i h room e =
     let d = table 64 (λ k. at l (64 * q + k)) in
     let place : (64 * q + i) / 64 * 64 ≡ 64 * q = omega arith in
     let number : (64 * q + i) % 64 ≡ i = omega arith in
-    get_d_table (pos 0) (length l) (block_at 16 inverse4x4 l) (64 * q + i) room ∙ sym (quads_inverse l (64 * q + i))
+    get_d_table (pos 0) (length l) (block_at 16 inverse4x4 l) (64 * q + i) room ∙ sym (quads.quads_inverse 16 4 (lit< tt) refl inverse4x4 l (64 * q + i))
     ∙ ap₂ (λ (a b : ℕ). at (quad_inverse (table 64 (λ k. at l (a + k)))) b) place number
     ∙ ap (λ t. at t i) (zero_inverse d (all_same 64 _ _ (λ k g. ap is_zero (get_d_table (pos 0) 64 (λ k. at l (64 * q + k)) k g)) ∙ uncoded l q e))
     ∙ get_or-replicate 64 i (pos 0) (pos 0) h

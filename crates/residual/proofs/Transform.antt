@@ -1,7 +1,7 @@
 -- The 4x4 inverse transform: how large its numbers grow, and its residuals by column. Assumes nothing.
 use mathlib.Core.Path.{◌≡◌, sym, ap, ◌∙◌, subst}
 use mathlib.Core.Bool.{true}
-use mathlib.Core.List.{List}
+use mathlib.Core.List.{List, [], ◌∷◌}
 use Prim.Native.Nat.{ℕ, zero, suc, ◌+◌, ◌*◌, ◌/◌, ◌%◌, ◌<◌}
 use native.Mathlib.Omega.{arith}
 use lib.IntN.{ℤ, pos, neg_ℤ, ◌+ℤ◌, ◌-ℤ◌}
@@ -11,7 +11,7 @@ use mir.Syntax.{w16, w32}
 use mir.Val.{SFits, to_z, of_z}
 use mir.ValLaws.{to_z-of_z}
 use Rattle.laws.specs.Range.{Within, AllWithin, at}
-use Rattle.laws.proofs.Ints.{ints, within_back, within_more, within_neg, within_shr, within_short, within_table, abs_add, parts_add, parts_pos, parts_abs, parts_shr, back}
+use Rattle.laws.proofs.Ints.{ints, within_more, within_neg, within_shr, within_short, within_table, abs_add, parts_add, parts_pos, parts_abs, parts_shr, back}
 use Rattle.laws.proofs.Blockwise.{OfBlock}
 use Rattle.laws.proofs.Tables.{length_table, table_same}
 use Rattle.numbers.specs.Numbers.{all_in_range}
@@ -27,6 +27,17 @@ twice k x y h g = record { within = omega (arith, h.within, g.within, abs_add x 
 
 apart : (k : ℕ) (x y : ℤ) → Within k x → Within k y → Within (2 * k) (x -ℤ y)
 apart k x y h g = twice k x (neg_ℤ y) h (within_neg k y g)
+
+-- four numbers, one by one
+pub four_within : {k : ℕ} {a b c d : ℤ} → Within k a → Within k b → Within k c → Within k d → AllWithin k (a ∷ b ∷ c ∷ d ∷ [])
+four_within {k} {a} {b} {c} {d} p q r s = record { each = places }
+  where
+    places : (n : ℕ) → Within k (at (a ∷ b ∷ c ∷ d ∷ []) n)
+    places zero = p
+    places (suc zero) = q
+    places (suc (suc zero)) = r
+    places (suc (suc (suc zero))) = s
+    places (suc (suc (suc (suc n)))) = record { within = omega arith }
 
 -- each step doubles the bound
 first_within : (k : ℕ) (d : ℕ → ℤ) → ((n : ℕ) → Within k (d n)) → AllWithin (2 * k) (first_step d)
@@ -96,9 +107,6 @@ module _ (m : ℕ) (d : ℕ → ℤ) (w : (n : ℕ) → Within (2 * m) (d n)) wh
       places (suc (suc (suc (suc n)))) = record { within = omega arith }
 
 -- a coefficient in range, as the machine reads it
-pub read_within : {z : ℤ} → Within 32768 z → Within 131072 (to_z w32 (of_z w32 z))
-read_within {z} h = within_back 131072 z tt (within_more 32768 131072 z h tt)
-
 pub row_within : (d : List ℤ) (i : ℕ) → all_in_range d ≡ true → AllWithin 131072 (f_row d i)
 unfolding e_row f_row
 row_within d i e = one_within 32768 (λ j. at d (4 * i + j)) (λ j. (all_within d e).each (4 * i + j))

@@ -1,16 +1,15 @@
 -- The two passes: what stands at each place after them, and what these values tell of a block. Assumes nothing.
 use mathlib.Core.Path.{◌≡◌, sym, ap, ap₂, ◌∙◌}
 use mathlib.Core.Bool.{true, ◌&&◌}
-use mathlib.Core.List.{List, ◌++◌}
+use mathlib.Core.List.{List}
 use Prim.Native.Nat.{ℕ, ◌+◌, ◌*◌, ◌/◌, ◌%◌, ◌<◌}
 use native.Mathlib.Omega.{arith}
 use lib.IntN.{ℤ, pos}
-use lib.ListN.{length, drop}
+use lib.ListN.{length}
 use Rattle.laws.specs.Range.{AllWithin, at}
 use Rattle.laws.specs.Table.{table, blockwise, all_below}
 use Rattle.laws.proofs.Blockwise.{OfBlock, itself, blockwise_at}
 use Rattle.laws.proofs.Ints.{within_more, within_table}
-use Rattle.laws.proofs.Ontos.{onto_all}
 use Rattle.laws.proofs.Tables.{length_table, get_d_table, table_same}
 use Rattle.laws.proofs.Tests.{true_t, T_true, same_test, and_left, and_right, and_of, all_at, all_of_lem, all_same, all_both, all_groups}
 use Rattle.numbers.specs.Numbers.{in_range, all_in_range, all_of, is_small, last_in_range}
@@ -50,12 +49,6 @@ of_columns = record {
   long = λ f. length_table (pos 0) 16 _;
   same = λ f f' e. table_same 16 _ _ (λ k h. ap (λ l. at l (k / 4)) (one_same _ _ (λ i g. e (4 * i + k % 4) (omega arith))));
 }
-
--- put over sixteen places they are all of the list
-pub columns_alone : (f h : List ℤ) → length h ≡ 16 → columns_of f ++ drop 16 h ≡ columns_of f
-columns_alone f h e =
-    let own = itself 16 columns_of of_columns f in
-    ap (λ l. l ++ drop 16 h) (sym own) ∙ onto_all 16 (at (columns_of f)) h e ∙ own
 
 pub columns_within : (f : List ℤ) → AllWithin 131072 f → AllWithin 524288 (columns_of f)
 unfolding columns_of

@@ -1,14 +1,16 @@
 -- Eight numbers, one by one. Assumes nothing.
-use mathlib.Core.Path.{◌≡◌, sym, ap, subst}
+use mathlib.Core.Path.{◌≡◌, ap}
 use mathlib.Core.List.{List, [], ◌∷◌}
 use Prim.Native.Nat.{ℕ, zero, suc, ◌<◌}
 use native.Mathlib.Omega.{arith}
 use lib.Dec.{T, leb, lit<}
-use lib.IntN.{ℤ}
+use lib.IntN.{ℤ, pos}
 use mir.Syntax.{w32}
 use mir.Val.{to_z, of_z}
 use Rattle.laws.specs.Range.{Within, AllWithin, at}
-use Rattle.laws.proofs.Ints.{back, within_at}
+use Rattle.laws.specs.Table.{table}
+use Rattle.laws.proofs.Tables.{get_d_table}
+use Rattle.laws.proofs.Ints.{within_at}
 use Rattle.transform_8x8.specs.Inverse8x8.{first_step, second_step, third_step, one_dimensional}
 
 pub eight_is : {a b c d e f g h p q r s t u v w : ℤ} → a ≡ p → b ≡ q → c ≡ r → d ≡ s → e ≡ t → f ≡ u → g ≡ v → h ≡ w
@@ -50,32 +52,6 @@ eight f = f 0 ∷ f 1 ∷ f 2 ∷ f 3 ∷ f 4 ∷ f 5 ∷ f 6 ∷ f 7 ∷ []
 abbrev pub word : ℤ → ℤ
 word z = to_z w32 (of_z w32 z)
 
-module _ (k : ℕ) (f : ℕ → ℤ) (small : T (leb k 2147483647)) (w : (n : ℕ) → Within k (f n)) where
-  one : (n : ℕ) → word (f n) ≡ f n
-  one n = back k (w n) small
-
-  words_are : eight (λ n. word (f n)) ≡ eight f
-  words_are = eight_is (one 0) (one 1) (one 2) (one 3) (one 4) (one 5) (one 6) (one 7)
-
-  pub words_within : AllWithin k (eight (λ n. word (f n)))
-  words_within = subst (AllWithin k) (sym words_are) (eight_within (w 0) (w 1) (w 2) (w 3) (w 4) (w 5) (w 6) (w 7))
-
-  -- a step reads these eight alone
-  pub first_words : first_step (at (eight (λ n. word (f n)))) ≡ first_step f
-  unfolding first_step
-  first_words = ap (λ v. first_step (at v)) words_are
-
-  pub second_words : second_step (at (eight (λ n. word (f n)))) ≡ second_step f
-  unfolding second_step
-  second_words = ap (λ v. second_step (at v)) words_are
-
-  pub third_words : third_step (at (eight (λ n. word (f n)))) ≡ third_step f
-  unfolding third_step
-  third_words = ap (λ v. third_step (at v)) words_are
-
-  pub all_words : one_dimensional (at (eight (λ n. word (f n)))) ≡ one_dimensional f
-  all_words = ap (λ e. third_step (at (second_step (at e)))) first_words
-
 -- the steps see no more than eight numbers
 pub first_same : (f g : ℕ → ℤ) → ((n : ℕ) → n < 8 → f n ≡ g n) → first_step f ≡ first_step g
 unfolding first_step
@@ -85,3 +61,10 @@ first_same f g h =
 
 pub eight_same : (f g : ℕ → ℤ) → ((n : ℕ) → n < 8 → f n ≡ g n) → one_dimensional f ≡ one_dimensional g
 eight_same f g h = ap (λ e. third_step (at (second_step (at e)))) (first_same f g h)
+
+-- so that they see them in a table
+pub first_table : (f : ℕ → ℤ) → first_step (at (table 8 f)) ≡ first_step f
+first_table f = first_same (at (table 8 f)) f (get_d_table (pos 0) 8 f)
+
+pub all_table : (f : ℕ → ℤ) → one_dimensional (at (table 8 f)) ≡ one_dimensional f
+all_table f = eight_same (at (table 8 f)) f (get_d_table (pos 0) 8 f)

@@ -15,6 +15,7 @@ use Rattle.laws.proofs.Tests.{true_t, T_true, same_test, and_left, and_right, an
 use Rattle.numbers.specs.Numbers.{in_range, all_in_range, all_of, last_in_range}
 use Rattle.numbers.proofs.InRange.{in_range_within, in_range_short, halves, last_in_range_lem, last_rounds}
 use Rattle.numbers.proofs.InRange as numbers
+use Rattle.transform_8x8.specs.inner.Laws.{of_64}
 use Rattle.residual.proofs.Transform.{rounded_small}
 use Rattle.transform_8x8.specs.Fits8x8.{Fits8x8}
 use Rattle.transform_8x8.specs.Inverse8x8.{second_step, third_step, e_row, f_row, g_row, h_column, k_column, m_column, inverse8x8, in_range8x8}
@@ -187,7 +188,7 @@ module _ (d : List ℤ) where
 
   -- a block in range has its numbers in range
   pub in_numbers : length d ≡ 64 → in_range8x8 d ≡ true → all_in_range d ≡ true
-  in_numbers n e = numbers.all_true d (λ k h. (says e).d_in k (omega (arith, n)))
+  in_numbers n e = of_64.numbers d n e
 
   -- ---- sixteen bits
   pub fits_8x8 : in_range8x8 d ≡ true → Fits8x8 d

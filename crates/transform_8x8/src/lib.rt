@@ -3,4 +3,5 @@
 
 pub mod inverse; // the calls: what they answer and put
 mod passes; // rows, then columns
+mod rows; // the rows of a block, and rounding
 mod steps; // the three steps of a row and of a column

@@ -1,6 +1,7 @@
-// The two passes over a block: eight rows, then eight columns.
+// The two passes over a block: eight rows, then eight columns. They look at their values as they go, and so are no other size of the 4x4 ones, which take the
+// rows of many blocks in one loop and look afterwards.
 ghost use Rattle.std.specs.Prelude.{◌≡◌, true, ◌&&◌, List, ◌++◌, ℕ, ◌+◌, ◌*◌, ◌≤◌, ◌<◌, ℤ, length, drop};
-ghost use Rattle.laws.specs.Range.{Within, AllWithin, at};
+ghost use Rattle.laws.specs.Range.{AllWithin, at};
 ghost use Rattle.laws.specs.Table.{table, onto, all_below};
 ghost use Rattle.numbers.specs.Numbers.{in_range, all_in_range, all_of, held};
 ghost use Rattle.residual.specs.Inverse.{rounded};
@@ -8,17 +9,19 @@ ghost use Rattle.transform_8x8.specs.Inverse8x8.{first_step, one_dimensional, e_
 ghost use Rattle.transform_8x8.specs.inner.ByColumn.{ByColumn, row_at, column_at};
 ghost use Rattle.transform_8x8.specs.inner.Told.{odd_of, column_in, row_told, column_told};
 
+use super::rows::{put_row, round, row_of};
 use super::steps::{Steps, one_dimensional};
 use numbers::reach::{with_last_list, with_list};
+use residual::blocks::Quad;
 
-// The residuals of the first 64 numbers of a list over the first 64 places of `out`, and whether every value on the way is in range.
-pub(crate) fn invert(d: &[i32], out: &mut [i16]) -> bool
-    requires { (64 ≤ length d.now) × (64 ≤ length out.old) × (all_in_range d.now ≡ true) }
-    ensures value { result ≡ in_range8x8 d.now }
-    ensures out_after { out.new ≡ inverse8x8 d.now ++ drop 64 out.old }
+// The residuals of a quad, one block, over the first 64 places of `out`, and whether every value on the way is in range.
+pub(crate) fn invert(quad: Quad, out: &mut [i16]) -> bool
+    requires { 64 ≤ length out.old }
+    ensures value { result ≡ in_range8x8 quad.entry.numbers.now }
+    ensures out_after { out.new ≡ inverse8x8 quad.entry.numbers.now ++ drop 64 out.old }
 {
     let mut g = [0i32; 64];
-    let after_rows = rows(d, &mut g);
+    let after_rows = rows(quad.numbers, &mut g);
     columns(&g, out, after_rows) < 32768
 }
 
@@ -29,12 +32,11 @@ fn rows(d: &[i32], g: &mut [i32]) -> u32
     ensures g_after { g.new ≡ table 64 (row_at d.now) }
 {
     let mut reach: u32 = 0;
+    // the number names the row in both lists
     for i in 0..8 {
-        let s = row(d, i);
-        let first = s.e;
-        let last = s.g;
+        let Steps { e, g: last } = row(d, i);
         put_row(g, i, last);
-        reach = with_odd(reach, first);
+        reach = with_odd(reach, e);
     }
     reach
 }
@@ -44,28 +46,7 @@ fn row(d: &[i32], i: usize) -> Steps
     requires { (64 ≤ length d.now) × (all_in_range d.now ≡ true) × (i < 8) }
     ensures { (result.e ≡ e_row d.now i) × (result.g ≡ g_row d.now i) }
 {
-    let k = 8 * i;
-    one_dimensional(
-        d[k],
-        d[k + 1],
-        d[k + 2],
-        d[k + 3],
-        d[k + 4],
-        d[k + 5],
-        d[k + 6],
-        d[k + 7],
-    )
-}
-
-// Row `i` of a block put from eight numbers.
-fn put_row(g: &mut [i32], i: usize, v: [i32; 8])
-    requires { (length g.old ≡ 64) × (i < 8) }
-    ensures { (f : ℕ → ℤ) (l : List ℤ) → length l ≡ 64 → ((j : ℕ) → j < 8 → at v j ≡ f (8 * i + j))
-        → g.old ≡ onto (8 * i) f l → g.new ≡ onto (8 * i + 8) f l }
-{
-    for j in 0..8 {
-        g[8 * i + j] = v[j];
-    }
+    one_dimensional(row_of(d, i))
 }
 
 // The columns of the transformed rows, transformed and rounded, and the reach with their values.
@@ -75,12 +56,11 @@ fn columns(g: &[i32], out: &mut [i16], x: u32) -> u32
     ensures out_after { out.new ≡ onto 64 (column_at g.now) out.old }
 {
     let mut reach = x;
+    // the number names the column in both lists
     for j in 0..8 {
-        let s = column(g, j);
-        let first = s.e;
-        let last = s.g;
+        let Steps { e, g: last } = column(g, j);
         put_column(out, j, last);
-        reach = with_last_list(with_odd(with_column(reach, g, j), first), &last);
+        reach = with_last_list(with_odd(with_column(reach, g, j), e), &last);
     }
     reach
 }
@@ -91,7 +71,15 @@ fn column(g: &[i32], j: usize) -> Steps
     ensures e_value { result.e ≡ first_step (λ i. at g.now (8 * i + j)) }
     ensures g_value { result.g ≡ one_dimensional (λ i. at g.now (8 * i + j)) }
 {
-    one_dimensional(
+    one_dimensional(column_of(g, j))
+}
+
+// The numbers of column `j`.
+fn column_of(g: &[i32], j: usize) -> [i32; 8]
+    requires { (64 ≤ length g.now) × (j < 8) }
+    ensures { result ≡ table 8 (λ i. at g.now (8 * i + j)) }
+{
+    [
         g[j],
         g[8 + j],
         g[16 + j],
@@ -100,7 +88,7 @@ fn column(g: &[i32], j: usize) -> Steps
         g[40 + j],
         g[48 + j],
         g[56 + j],
-    )
+    ]
 }
 
 // Column `j` of a block put from eight numbers, each rounded to a residual.
@@ -109,17 +97,9 @@ fn put_column(out: &mut [i16], j: usize, m: [i32; 8])
     ensures { (f : ℕ → ℤ) (l : List ℤ) → ((i : ℕ) → i < 8 → rounded (at m i) ≡ f (8 * i + j))
         → ByColumn f l (8 * j) out.old → ByColumn f l (8 * j + 8) out.new }
 {
-    for i in 0..8 {
-        out[8 * i + j] = round(m[i]);
+    for (i, v) in m.iter().enumerate() {
+        out[8 * i + j] = round(*v);
     }
-}
-
-// A number of the second pass, rounded to a residual.
-pub(crate) fn round(m: i32) -> i16
-    requires { Within 1782272 m }
-    ensures { result ≡ rounded m }
-{
-    ((m + 32) >> 6) as i16
 }
 
 // The reach with the values at the odd places of a first step. No later value tells of these; where the last ones of a pass are in range, so are all others.
@@ -134,17 +114,5 @@ fn with_column(x: u32, g: &[i32], j: usize) -> u32
     requires { (length g.now ≡ 64) × (j < 8) }
     ensures { held result ≡ (held x && column_in g.now j) }
 {
-    with_list(
-        x,
-        &[
-            g[j],
-            g[8 + j],
-            g[16 + j],
-            g[24 + j],
-            g[32 + j],
-            g[40 + j],
-            g[48 + j],
-            g[56 + j],
-        ],
-    )
+    with_list(x, &column_of(g, j))
 }

@@ -23,7 +23,7 @@ overflow_cast-out c = let h = short c.args.list.now c.loop-k.k c.requires.1 in r
 
 pub loop-k-preserved : goal.loop-k-preserved
 loop-k-preserved c = let h = short c.args.list.now c.loop-k.k c.requires.1 in
-    (omega arith, filled_more (pos 0) _ _ _ _ _ (omega arith) c.loop-k.invariant.1 (ap (λ z. to_z w16 (of_z w16 z)) h.1 ∙ to_z-of_z w16 _ h.0))
+    filled_more (pos 0) _ _ _ _ _ (omega arith) c.loop-k.invariant (ap (λ z. to_z w16 (of_z w16 z)) h.1 ∙ to_z-of_z w16 _ h.0)
 
 pub returns : goal.returns
-returns c = filled_copy (pos 0) c.args.list.now _ c.loop-k.k c.loop-k.out (omega arith) refl c.loop-k.invariant.1
+returns c = filled_copy (pos 0) c.args.list.now _ c.loop-k.k c.loop-k.out (omega arith) refl c.loop-k.invariant

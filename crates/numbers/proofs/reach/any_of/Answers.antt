@@ -13,15 +13,13 @@ use borrow.Author.Rules.{rules}
 use Rattle.numbers.proofs.Far.{or_below, zero_bits, bits_zero}
 use Rattle.numbers.proofs.reach.any_of.Goals as goal
 
-pub loop-i-init : goal.loop-i-init
-loop-i-init c = (omega arith, all_start _ _)
+pub loop-v-init : goal.loop-v-init
+loop-v-init c = all_start _ _
 
-pub loop-i-preserved : goal.loop-i-preserved
-loop-i-preserved c = let s = c.args.s.now in
-    let z = at s c.loop-i.i in
+pub loop-v-preserved : goal.loop-v-preserved
+loop-v-preserved c = let s = c.args.s.now in
+    let z = at s c.loop-v.v-index in
     let f : SFits w32 z = search rules in
-    let l = or_lt 32 c.loop-i.any-bits (of_z w32 z) (omega arith) (Fits-of_z f).fits in (
-      omega arith,
-      bits_zero _ l ∙ or_below 0 c.loop-i.any-bits (of_z w32 z)
-          ∙ all_after (ltb c.loop-i.any-bits 1) _ _ c.loop-i.i (λ k. is_zero (at s k)) (sym (bits_zero c.loop-i.any-bits (omega arith)) ∙ c.loop-i.invariant.1) (zero_bits z f),
-    )
+    let l = or_lt 32 c.loop-v.any-bits (of_z w32 z) (omega arith) (Fits-of_z f).fits in
+    bits_zero _ l ∙ or_below 0 c.loop-v.any-bits (of_z w32 z)
+    ∙ all_after (ltb c.loop-v.any-bits 1) _ _ c.loop-v.v-index (λ k. is_zero (at s k)) (sym (bits_zero c.loop-v.any-bits (omega arith)) ∙ c.loop-v.invariant) (zero_bits z f)

@@ -4,6 +4,7 @@ use mathlib.Core.Bool.{◌&&◌}
 use mathlib.Core.List.{List, ◌++◌}
 use Prim.Native.Nat.{ℕ, ◌*◌, ◌-◌}
 use native.Mathlib.Omega.{arith}
+use borrow.Author.Tests.{eq-eqb}
 use borrow.Rule.Slice.PartMut.{put_mid, mid_of}
 use lib.IntN.{ℤ, pos}
 use lib.ListN.{length, drop, replicate, length-take, length-drop}
@@ -17,6 +18,7 @@ use Rattle.numbers.specs.Numbers.{all_in_range, all_of, last_in_range}
 use Rattle.residual.specs.Inverse.{rounded}
 use Rattle.residual.specs.inner.Passes.{row_at, columns_of}
 use Rattle.residual.specs.inner.Quads.{quad_inverse}
+use Rattle.residual.proofs.Quads.{first_small}
 use Rattle.residual.proofs.TwoPasses.{of_columns, rows_within, quad_within, quad_is, quad_told, quad_small}
 use Rattle.residual.proofs.inverse.invert_four.Goals as goal
 
@@ -37,16 +39,16 @@ rounded_are : (h d out : List ℤ) → h ≡ blockwise 16 columns_of (table 64 (
 rounded_are h d out e n p = p ∙ ap (λ n. table n (λ k. rounded (at h k))) n ∙ ap (λ h. table 64 (λ k. rounded (at h k))) e ∙ quad_is d
 
 pub rows-requires : goal.rows-requires
-rows-requires c = (c.requires.0, refl, c.requires.2)
+rows-requires c = (c.args.quad.long, refl, c.args.quad.good)
 
 pub loop-b-init : goal.loop-b-init
 loop-b-init c = (omega arith, onto_none _ _)
 
 pub columns-requires : goal.columns-requires
-columns-requires c = let l = rows_long c.rows.new.f c.args.d.now c.rows.ensures in (
+columns-requires c = let l = rows_long c.rows.new.f c.args.quad.numbers.now c.rows.ensures in (
   simp (length-take, length-drop) (omega arith),
   simp (length-take, length-drop) (omega arith),
-  within_part 131072 (16 * c.loop-b.b) (64 - 16 * c.loop-b.b) c.rows.new.f (subst (AllWithin 131072) (sym c.rows.ensures) (rows_within c.args.d.now 64 c.requires.2)),
+  within_part 131072 (16 * c.loop-b.b) (64 - 16 * c.loop-b.b) c.rows.new.f (subst (AllWithin 131072) (sym c.rows.ensures) (rows_within c.args.quad.numbers.now 64 c.args.quad.good)),
 )
 
 pub loop-b-preserved : goal.loop-b-preserved
@@ -54,7 +56,7 @@ loop-b-preserved c = let f = c.rows.new.f in
     let h = c.loop-b.h in
     let n = 16 * c.loop-b.b in
     let ys = c.columns.new.h in
-    let l = rows_long f c.args.d.now c.rows.ensures in
+    let l = rows_long f c.args.quad.numbers.now c.rows.ensures in
     let m : length h ≡ 64 = omega arith in (
       omega arith,
       ap (λ m. put_mid n (m - n) h ys) (sym m)
@@ -63,19 +65,19 @@ loop-b-preserved c = let f = c.rows.new.f in
     )
 
 pub round_all-requires : goal.round_all-requires
-round_all-requires c = let h = columns_are c.loop-b.b c.rows.new.f c.args.d.now c.loop-b.h (omega arith) c.rows.ensures c.loop-b.invariant.1 in
-    (omega (arith, length-take 64 c.args.out.now), subst (AllWithin 524288) (sym h) (quad_within c.args.d.now c.requires.2))
+round_all-requires c = let h = columns_are c.loop-b.b c.rows.new.f c.args.quad.numbers.now c.loop-b.h (omega arith) c.rows.ensures c.loop-b.invariant.1 in
+    (omega (arith, length-take 64 c.args.out.now), subst (AllWithin 524288) (sym h) (quad_within c.args.quad.numbers.now c.args.quad.good))
 
-pub returns-then-small : goal.returns-then-small
-returns-then-small c = let h = columns_are c.loop-b.b c.rows.new.f c.args.d.now c.loop-b.h (omega arith) c.rows.ensures c.loop-b.invariant.1 in
+pub returns-then-quad-eq1 : goal.returns-then-quad-eq1
+returns-then-quad-eq1 c = let h = columns_are c.loop-b.b c.rows.new.f c.args.quad.numbers.now c.loop-b.h (omega arith) c.rows.ensures c.loop-b.invariant.1 in
     record {
-      value = sym (quad_small c.args.d.now (c.requires.3 c.if-small.true));
-      out_after = ap (λ t. t ++ drop 64 c.args.out.now) (rounded_are c.loop-b.h c.args.d.now c.round_all.new.out h (omega arith) c.round_all.ensures);
+      value = eq-eqb c.args.quad.mark 1 c.if-quad-eq1.true ∙ sym (quad_small c.args.quad.numbers.now (first_small c.args.quad.numbers.now (sym c.args.quad.marked ∙ c.if-quad-eq1.true)));
+      out_after = ap (λ t. t ++ drop 64 c.args.out.now) (rounded_are c.loop-b.h c.args.quad.numbers.now c.round_all.new.out h (omega arith) c.round_all.ensures);
     }
 
-pub returns : goal.returns
-returns c = let h = columns_are c.loop-b.b c.rows.new.f c.args.d.now c.loop-b.h (omega arith) c.rows.ensures c.loop-b.invariant.1 in
+pub returns-else-quad-eq1 : goal.returns-else-quad-eq1
+returns-else-quad-eq1 c = let h = columns_are c.loop-b.b c.rows.new.f c.args.quad.numbers.now c.loop-b.h (omega arith) c.rows.ensures c.loop-b.invariant.1 in
     record {
-      value = c.values_in_range.ensures ∙ ap₂ (λ f h. all_in_range f && all_of last_in_range h) c.rows.ensures h ∙ quad_told c.args.d.now c.requires.2;
-      out_after = ap (λ t. t ++ drop 64 c.args.out.now) (rounded_are c.loop-b.h c.args.d.now c.round_all.new.out h (omega arith) c.round_all.ensures);
+      value = c.values_in_range.ensures ∙ ap₂ (λ f h. all_in_range f && all_of last_in_range h) c.rows.ensures h ∙ quad_told c.args.quad.numbers.now c.args.quad.good;
+      out_after = ap (λ t. t ++ drop 64 c.args.out.now) (rounded_are c.loop-b.h c.args.quad.numbers.now c.round_all.new.out h (omega arith) c.round_all.ensures);
     }

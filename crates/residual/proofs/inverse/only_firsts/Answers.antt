@@ -20,7 +20,7 @@ loop-b-init c = (omega arith, λ e k i h. absurd (omega arith))
 pub loop-b-preserved : goal.loop-b-preserved
 loop-b-preserved c = let r = to_z-of_z c.any_of-any.ensures.0 in (
   omega arith,
-  rest_next c.args.d.now c.loop-b.b (to_z w32 c.loop-b.any-bits) (to_z w32 (of_z w32 c.any_of-any.result)) (omega (arith, c.requires)) (ap is_zero r ∙ c.any_of-any.ensures.1) c.loop-b.invariant.1,
+  rest_next c.args.quad.numbers.now c.loop-b.b (to_z w32 c.loop-b.any-bits) (to_z w32 (of_z w32 c.any_of-any.result)) (omega (arith, c.args.quad.long)) (ap is_zero r ∙ c.any_of-any.ensures.1) c.loop-b.invariant.1,
 )
 
 pub returns : goal.returns

@@ -2,7 +2,7 @@
 -- Assumes nothing.
 use mathlib.Core.Path.{◌≡◌}
 use mathlib.Core.Bool.{true}
-use Prim.Native.Nat.{ℕ, ◌+◌, ◌*◌, ◌-◌, ◌≤◌, ◌<◌}
+use Prim.Native.Nat.{ℕ, ◌+◌, ◌*◌, ◌≤◌, ◌<◌}
 use lib.IntN.{pos}
 use Rattle.laws.specs.Range.{at}
 use Rattle.numbers.specs.Numbers.{is_zero}
@@ -10,6 +10,3 @@ use Rattle.residual.proofs.inverse.only_firsts.Given as goal
 
 abbrev pub invariant-loop-b : goal.invariant-loop-b
 invariant-loop-b l = (l.b ≤ 4) × (is_zero l.any ≡ true → (c i : ℕ) → c < l.b → 0 < i → i < 16 → at l.d (16 * c + i) ≡ pos 0)
-
-abbrev pub decreases-loop-b : goal.decreases-loop-b
-decreases-loop-b l = 4 - l.b

@@ -11,6 +11,7 @@ use mir.Syntax.{w32}
 use mir.Val.{SFits}
 use Rattle.laws.specs.Range.{at}
 use Rattle.laws.proofs.Ints.{ints}
+use Rattle.residual.proofs.Transform.{four_within}
 use Rattle.residual.proofs.TwoPasses.{one_same}
 use Rattle.residual.proofs.passes.column.Goals as goal
 
@@ -23,7 +24,7 @@ reads f j (suc (suc (suc zero))) h = refl
 reads f j (suc (suc (suc (suc n)))) h = absurd (omega arith)
 
 pub one_dimensional-requires : goal.one_dimensional-requires
-one_dimensional-requires c = (search ints depth 20, search ints depth 20, search ints depth 20, search ints depth 20)
+one_dimensional-requires c = let w = c.requires.1 in four_within (search ints depth 20) (search ints depth 20) (search ints depth 20) (search ints depth 20)
 
 pub returns : goal.returns
 returns c = let f = c.args.f.now in

@@ -33,8 +33,8 @@ four-at g a b c d (suc (suc (suc (suc j)))) h = absurd (omega arith)
 pub loop-i-init : goal.loop-i-init
 loop-i-init c = (omega arith, onto_none _ _)
 
-pub put_four-requires : goal.put_four-requires
-put_four-requires c = omega (arith, long c.before.before.before.before.before.before, c.requires.1)
+pub put_row-requires : goal.put_row-requires
+put_row-requires c = omega (arith, long c.before.before.before.before.before.before, c.requires.1)
 
 pub loop-i-preserved : goal.loop-i-preserved
 loop-i-preserved c = let f = c.args.f.now in
@@ -42,7 +42,7 @@ loop-i-preserved c = let f = c.args.f.now in
     let next : 4 * i + 4 ≡ 4 * (i + 1) = omega arith in
     let is : (j : ℕ) → j < 4 → _ = λ j h. in_column_lem f i j (omega arith) h in (
       omega arith,
-      c.put_four.ensures (at (columns_of f)) c.args.h.now (sym (long c.before.before.before.before.before.before.before.before))
+      c.put_row.ensures (at (columns_of f)) c.args.h.now (sym (long c.before.before.before.before.before.before.before.before))
           (four-at (λ j. at (columns_of f) (4 * i + j)) (to_z-of_z {w = w32} {z = at c.column-h0.result i} (search rules) ∙ ap (λ l. at l i) c.column-h0.ensures ∙ is 0 (lit< tt))
           (to_z-of_z {w = w32} {z = at c.column-h1.result i} (search rules) ∙ ap (λ l. at l i) c.column-h1.ensures ∙ is 1 (lit< tt))
           (to_z-of_z {w = w32} {z = at c.column-h2.result i} (search rules) ∙ ap (λ l. at l i) c.column-h2.ensures ∙ is 2 (lit< tt))

@@ -7,18 +7,6 @@ pub returns : goal.returns
 unfolding first_step second_step
 returns c = four_is (search ints depth 20) (search ints depth 20) (search ints depth 20) (search ints depth 20)
 
-pub overflow_add-e0 : goal.overflow_add-e0
-overflow_add-e0 c = search ints depth 20
-
-pub overflow_sub-e1 : goal.overflow_sub-e1
-overflow_sub-e1 c = search ints depth 20
-
-pub overflow_sub-e2 : goal.overflow_sub-e2
-overflow_sub-e2 c = search ints depth 20
-
-pub overflow_add-e3 : goal.overflow_add-e3
-overflow_add-e3 c = search ints depth 20
-
 pub overflow_add-result : goal.overflow_add-result
 overflow_add-result c = search ints depth 20
 

@@ -22,15 +22,15 @@ loop-i-init c = (search rules, onto_none _ _)
 pub row-requires : goal.row-requires
 row-requires c = (omega (arith, c.requires.0, c.requires.1), c.requires.2)
 
-pub put_four-requires : goal.put_four-requires
-put_four-requires c = omega (arith, long c.before.before.before, c.requires.1)
+pub put_row-requires : goal.put_row-requires
+put_row-requires c = omega (arith, long c.before.before.before, c.requires.1)
 
 pub loop-i-preserved : goal.loop-i-preserved
 loop-i-preserved c = let d = c.args.d.now in
     let i = c.loop-i.i in
     let next : 4 * i + 4 ≡ 4 * (i + 1) = omega arith in (
       omega arith,
-      c.put_four.ensures (row_at d) c.args.f.now (sym (long c.before.before.before.before.before)) (λ j h. ap (λ l. at l j) c.row.ensures ∙ in_row d i j h) c.loop-i.invariant.1
+      c.put_row.ensures (row_at d) c.args.f.now (sym (long c.before.before.before.before.before)) (λ j h. ap (λ l. at l j) c.row.ensures ∙ in_row d i j h) c.loop-i.invariant.1
           ∙ ap (λ n. onto n (row_at d) c.args.f.now) next,
     )
 

@@ -1,5 +1,4 @@
 -- `residual::reconstruct::clipped_sums` meets its contract. The invariant: the places passed hold the clipped sums. Assumes nothing.
-use Prim.Native.Nat.{◌≤◌, ◌-◌}
 use lib.IntN.{◌+ℤ◌}
 use Rattle.laws.specs.Range.{at}
 use Rattle.laws.proofs.Tables.{Filled}
@@ -7,7 +6,4 @@ use Rattle.basics.specs.Clip.{Clip1}
 use Rattle.residual.proofs.reconstruct.clipped_sums.Given as goal
 
 abbrev pub invariant-loop-k : goal.invariant-loop-k
-invariant-loop-k l = (l.k ≤ l.n) × Filled 0 (λ i. Clip1 (at l.pred i +ℤ at l.res i)) 64 l.k l.made
-
-abbrev pub decreases-loop-k : goal.decreases-loop-k
-decreases-loop-k l = l.n - l.k
+invariant-loop-k g l = Filled 0 (λ i. Clip1 (at l.pred i +ℤ at l.res i)) g.row.N l.k l.made

@@ -40,23 +40,23 @@ pub put_column-requires : goal.put_column-requires
 put_column-requires c = (
   omega (arith, c.loop-j.invariant.1.long, c.requires.2),
   omega arith,
-  subst (AllWithin 1782272) (sym c.column-s.ensures.g_value) (third_all 30208 _ (λ i. c.requires.1.each (8 * i + c.loop-j.j))),
+  subst (AllWithin 1782272) (sym c.column.ensures.g_value) (third_all 30208 _ (λ i. c.requires.1.each (8 * i + c.loop-j.j))),
 )
 
 pub loop-j-preserved : goal.loop-j-preserved
 loop-j-preserved c = let g = c.args.g.now in
     let j = c.loop-j.j in
-    let odd = all_of in_range (odd_of c.column-s.result.e) in
+    let odd = all_of in_range (odd_of c.column.result.e) in
     let next : 8 * j + 8 ≡ 8 * (j + 1) = omega arith in (
       omega arith,
       by_at (column_at g) c.args.out.now next
-          (c.put_column.ensures (column_at g) c.args.out.now (λ i h. ap (λ l. rounded (at l i)) c.column-s.ensures.g_value ∙ in_column_lem g i j (omega arith)) c.loop-j.invariant.1),
+          (c.put_column.ensures (column_at g) c.args.out.now (λ i h. ap (λ l. rounded (at l i)) c.column.ensures.g_value ∙ in_column_lem g i j (omega arith)) c.loop-j.invariant.1),
       c.with_last_list-reach.ensures
-          ∙ ap (λ n. held c.with_odd.result && all_below n (λ k. last_in_range (at c.column-s.result.g k))) (ap length c.column-s.ensures.g_value ∙ eight _)
-          ∙ ap (λ t. t && all_of_eight last_in_range c.column-s.result.g) (c.with_odd.ensures ∙ ap (λ t. t && odd) c.with_column.ensures)
+          ∙ ap (λ n. held c.with_odd.result && all_below n (λ k. last_in_range (at c.column.result.g k))) (ap length c.column.ensures.g_value ∙ eight _)
+          ∙ ap (λ t. t && all_of_eight last_in_range c.column.result.g) (c.with_odd.ensures ∙ ap (λ t. t && odd) c.with_column.ensures)
           ∙ three (held c.loop-j.reach) (column_in g j) odd _
           ∙ all_after (held c.loop-j.reach) (held c.args.x) _ j (column_told g) c.loop-j.invariant.2
-          (ap₂ (λ h m. column_in g j && all_of in_range (odd_of h) && all_of_eight last_in_range m) c.column-s.ensures.e_value c.column-s.ensures.g_value),
+          (ap₂ (λ h m. column_in g j && all_of in_range (odd_of h) && all_of_eight last_in_range m) c.column.ensures.e_value c.column.ensures.g_value),
     )
 
 pub shape_of-out : goal.shape_of-out

@@ -19,12 +19,12 @@ use Rattle.transform_8x8.proofs.Halfway.{told}
 use Rattle.transform_8x8.proofs.passes.invert.Goals as goal
 
 pub columns-requires : goal.columns-requires
-columns-requires c = let d = c.args.d.now in (
+columns-requires c = let d = c.args.quad.numbers.now in (
   ap length c.rows-after_rows.ensures.g_after ∙ length_table (pos 0) 64 (row_at d),
-  subst (AllWithin 241664) (sym c.rows-after_rows.ensures.g_after) (within_table 241664 64 (row_at d) (λ k _. ((bounds d c.requires.2).g (k / 8)).each (k % 8))),
-  c.requires.1,
+  subst (AllWithin 241664) (sym c.rows-after_rows.ensures.g_after) (within_table 241664 64 (row_at d) (λ k _. ((bounds d c.args.quad.good).g (k / 8)).each (k % 8))),
+  c.requires,
 )
 
 pub returns : goal.returns
 unfolding inverse8x8
-returns c = let d = c.args.d.now in record { value = c.columns.ensures.result_value ∙ ap₂ (λ t g. t && all_below 8 (column_told g)) c.rows-after_rows.ensures.result_value c.rows-after_rows.ensures.g_after ∙ told d c.requires.2; out_after = c.columns.ensures.out_after ∙ onto_same 64 (column_at c.rows-after_rows.new.g) (residual_at d) c.args.out.now (λ k h. ap (λ g. column_at g k) c.rows-after_rows.ensures.g_after ∙ columns_are d k h) }
+returns c = let d = c.args.quad.numbers.now in record { value = c.columns.ensures.result_value ∙ ap₂ (λ t g. t && all_below 8 (column_told g)) c.rows-after_rows.ensures.result_value c.rows-after_rows.ensures.g_after ∙ told d c.args.quad.good; out_after = c.columns.ensures.out_after ∙ onto_same 64 (column_at c.rows-after_rows.new.g) (residual_at d) c.args.out.now (λ k h. ap (λ g. column_at g k) c.rows-after_rows.ensures.g_after ∙ columns_are d k h) }

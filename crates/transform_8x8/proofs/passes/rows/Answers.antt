@@ -39,9 +39,9 @@ loop-i-preserved c = let d = c.args.d.now in
     let i = c.loop-i.i in
     let next : 8 * i + 8 ≡ 8 * (i + 1) = omega arith in (
       omega arith,
-      c.put_row.ensures (row_at d) c.args.g.now c.requires.2 (λ j h. ap (λ l. at l j) c.row-s.ensures.1 ∙ in_row d i j h) c.loop-i.invariant.1
+      c.put_row.ensures (row_at d) c.args.g.now c.requires.2 (λ j h. ap (λ l. at l j) c.row.ensures.1 ∙ in_row d i j h) c.loop-i.invariant.1
           ∙ ap (λ n. onto n (row_at d) c.args.g.now) next,
-      c.with_odd-reach.ensures ∙ ap₂ ◌&&◌ c.loop-i.invariant.2 (ap (λ e. all_of in_range (odd_of e)) c.row-s.ensures.0) ∙ all_next i (row_told d),
+      c.with_odd-reach.ensures ∙ ap₂ ◌&&◌ c.loop-i.invariant.2 (ap (λ e. all_of in_range (odd_of e)) c.row.ensures.0) ∙ all_next i (row_told d),
     )
 
 pub shape_of-g : goal.shape_of-g
