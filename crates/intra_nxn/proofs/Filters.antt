@@ -5,32 +5,49 @@ use mathlib.Core.List.{List}
 use Prim.Native.Nat.{ℕ, zero, suc, ◌+◌, ◌-◌, ◌*◌, ◌/◌, ◌≤◌, ◌<◌}
 use native.Mathlib.Omega.{arith}
 use lib.Dec.{eqb}
-use lib.ListN.{get_or, length, set, length-set}
+use borrow.Rule.Slice.PartMut.{put_mid}
+use lib.ListN.{get_or, length, set, replicate, length-set, length-append}
 use lib.Seq.{get_or-set_same, get_or-set_other}
+use Rattle.std.proofs.lemmas.List.{get_or_append_left}
 use borrow.Author.Tests.{ne_eqb, eqb-true, eqb-false}
 use Rattle.laws.proofs.Tests.{choose}
 use Rattle.intra_nxn.specs.IntraNxN.{mean3, filtered, filtered_side, filtered_corner}
 use Rattle.basics.specs.Near.{Near}
-use Rattle.intra_nxn.specs.inner.Run.{Run, Filtered}
+use Rattle.intra_nxn.specs.inner.Run.{Run, Filtered, mean_round}
 use Rattle.intra_nxn.proofs.Places.{turn}
 
--- ---- the means of three as their loop leaves them
-pub filtered_made : (e f : List ℕ) → length f ≡ 32
-    → ((i : ℕ) → i < 27 → 2 ≤ i → get_or f i 0 ≡ mean3 (get_or e (i - 1) 0) (get_or e i 0) (get_or e (i + 1) 0))
-    → Filtered e (set (set f 1 (get_or f 2 0)) 27 (get_or (set f 1 (get_or f 2 0)) 26 0))
-filtered_made e f len all =
+-- ---- the means of three as their loop leaves them, and the ends
+mean_moved : (e : List ℕ) (k u v w : ℕ) → u ≡ k → v ≡ 1 + k → w ≡ 2 + k → mean_round e k ≡ mean3 (get_or e u 0) (get_or e v 0) (get_or e w 0)
+mean_moved e k u v w a b c = rw (a, b, c)
+
+pub means_made : (e xs : List ℕ) → length xs ≡ 25 → ((k : ℕ) → k < 25 → get_or xs k 0 ≡ mean_round e (1 + k))
+    → Filtered e (set (set (put_mid 2 25 (replicate 32 0) xs) 1 (get_or (put_mid 2 25 (replicate 32 0) xs) 2 0)) 27
+    (get_or (set (put_mid 2 25 (replicate 32 0) xs) 1 (get_or (put_mid 2 25 (replicate 32 0) xs) 2 0)) 26 0))
+means_made e xs long here =
     record {
       size = simp length-set len;
-      three = λ i a b. other i (omega arith) (omega arith) ∙ all i (omega arith) a;
-      end_left = get_or-set_other f₁ 27 1 _ 0 (omega arith) ∙ get_or-set_same f 1 _ 0 (omega arith) ∙ sym (other 2 (omega arith) (omega arith));
-      end_above = get_or-set_same f₁ 27 _ 0 (simp length-set (omega arith)) ∙ sym (get_or-set_other f₁ 27 26 _ 0 (omega arith));
+      three = λ i a b. other i (omega arith) (omega arith) ∙ place i a b;
+      end_left = get_or-set_other f₁ 27 1 (get_or f₁ 26 0) 0 (omega arith) ∙ get_or-set_same f 1 (get_or f 2 0) 0 (omega (arith, len)) ∙ sym (other 2 (omega arith) (omega arith));
+      end_above = get_or-set_same f₁ 27 (get_or f₁ 26 0) 0 (simp length-set (omega (arith, len))) ∙ sym (get_or-set_other f₁ 27 26 (get_or f₁ 26 0) 0 (omega arith));
     }
   where
+    f : List ℕ
+    f = put_mid 2 25 (replicate 32 0) xs
+
+    len : length f ≡ 32
+    len = simp length-append (omega (arith, long))
+
+    place : (i : ℕ) → 2 ≤ i → i ≤ 26 → get_or f i 0 ≡ mean3 (get_or e (i - 1) 0) (get_or e i 0) (get_or e (i + 1) 0)
+    place zero a b = absurd (omega arith)
+    place (suc zero) a b = absurd (omega arith)
+    place (suc (suc k)) a b =
+        get_or_append_left xs _ 0 k (omega (arith, long)) ∙ here k (omega arith) ∙ mean_moved e (1 + k) _ _ _ (omega arith) (omega arith) (omega arith)
+
     f₁ : List ℕ
     f₁ = set f 1 (get_or f 2 0)
 
     other : (i : ℕ) → (i ≡ 1 → ⊥) → (i ≡ 27 → ⊥) → get_or (set f₁ 27 (get_or f₁ 26 0)) i 0 ≡ get_or f i 0
-    other i a b = get_or-set_other f₁ 27 i _ 0 b ∙ get_or-set_other f 1 i _ 0 a
+    other i a b = get_or-set_other f₁ 27 i (get_or f₁ 26 0) 0 b ∙ get_or-set_other f 1 i (get_or f 2 0) 0 a
 
 -- ---- one side
 -- the mean next to an absent corner, and at a corner with absent sides

@@ -1,16 +1,17 @@
 -- The rows of a block are windows of lines: what stands in the lines is what Places says of the run and its means. Once over the side. Assumes nothing.
 use mathlib.Core.Path.{◌≡◌, refl, ap, ◌∙◌}
 use mathlib.Core.Bool.{Bool, true, false, cond}
-use mathlib.Core.List.{List}
+use mathlib.Core.List.{List, ◌++◌}
 use Prim.Native.Nat.{ℕ, ◌+◌, ◌-◌, ◌*◌, ◌/◌, ◌%◌, ◌≤◌, ◌<◌}
 use native.Mathlib.Decide.{dec_lt}
 use native.Mathlib.Nat.{add-mul, mul-le-mul_right}
 use native.Mathlib.Omega.{arith}
-use borrow.Rule.Slice.PartMut.{put_mid, mid_of}
+use borrow.Rule.Slice.PartMut.{mid_of, put_mid, same_len_mid}
 use lib.Arith.{digits_div, digits_mod}
 use lib.Dec.{eqb, ltb}
-use lib.ListN.{get_or, length, set, replicate, length-set}
-use lib.Seq.{get_or-set_same, get_or-set_other}
+use lib.ListN.{get_or, length, set, take, drop, replicate, length-set, length-drop}
+use lib.Seq.{get_or-set_same, get_or-set_other, get_or-take, length-take-le}
+use Rattle.std.proofs.lemmas.List.{get_or_append_left, get_or-append_right}
 use borrow.Author.Count.{below_more}
 use borrow.Author.Tests.{lt-ltb, le-ltb, eq-eqb, ne_eqb, ltb-true, ltb-false, eqb-true, eqb-false}
 use Rattle.laws.specs.Table.{block_of, onto}
@@ -44,12 +45,28 @@ pair_more m f g h i l {u} {v} small long q hu hv =
     let second : v ≡ pairs m f g h (2 * i + 1) = rw (lt-ltb (2 * i + 1) m (omega arith), ne_eqb ((2 * i + 1) % 2) 0 (omega arith)) (hv ∙ ap g (omega arith)) in
     rw (← next) (line_more (2 * i + 1) (pairs m f g h) (set l (2 * i) u) (omega arith) (line_more (2 * i) (pairs m f g h) l (omega arith) q first) second)
 
--- and a place past them
-pub past_more : (m : ℕ) (f g h : ℕ → ℕ) (j : ℕ) (l : List ℕ) {v : ℕ} → m ≤ j → j < 32 → Line j (pairs m f g h) l → v ≡ h j → Line (j + 1) (pairs m f g h) (set l j v)
-unfolding pairs
-past_more m f g h j l far small q e = line_more j (pairs m f g h) l small q (rw (le-ltb j m far) e)
+-- the places from a on, put through their own part
+mid_long : (a k : ℕ) (l : List ℕ) → a + k ≤ 32 → length l ≡ 32 → length (mid_of a k l) ≡ k
+mid_long a k l inside size = length-take-le k (drop a l) (simp length-drop (omega (arith, size)))
 
--- or all of those past them, where they were there from the start
+pub part_line : (a k e : ℕ) (f : ℕ → ℕ) (l ys : List ℕ) → e ≡ a + k → e ≤ 32 → Line a f l → length ys ≡ length (mid_of a k l)
+    → ((j : ℕ) → j < length ys → get_or ys j 0 ≡ f (a + j)) → Line e f (put_mid a k l ys)
+part_line a k e f l ys end inside q same here = record { size = same_len_mid a k l ys same ∙ q.size; is = λ j b. go j b (dec_lt j a) }
+  where
+    before : length (take a l) ≡ a
+    before = length-take-le a l (omega (arith, q.size))
+
+    long : length ys ≡ k
+    long = same ∙ mid_long a k l (omega arith) q.size
+
+    go : (j : ℕ) → j < e → Dec (j < a) → get_or (put_mid a k l ys) j 0 ≡ f j
+    go j b (yes h) = get_or_append_left (take a l) _ 0 j (omega (arith, before)) ∙ get_or-take a l j 0 h ∙ q.is j h
+    go j b (no h) =
+        let at : a + (j - a) ≡ j = omega arith in
+        get_or-append_right (take a l) _ a j 0 before (omega arith) ∙ get_or_append_left ys _ 0 (j - a) (omega (arith, long))
+        ∙ here (j - a) (omega (arith, long)) ∙ ap f at
+
+-- all of those past them, where they were there from the start
 pub past_all : (m n : ℕ) (f g h : ℕ → ℕ) (l : List ℕ) → Line m (pairs m f g h) l → ((j : ℕ) → m ≤ j → j < n → get_or l j 0 ≡ h j) → Line n (pairs m f g h) l
 unfolding pairs
 past_all m n f g h l q rest = record { size = q.size; is = λ j b. go j b (dec_lt j m) }
@@ -57,6 +74,17 @@ past_all m n f g h l q rest = record { size = q.size; is = λ j b. go j b (dec_l
     go : (j : ℕ) → j < n → Dec (j < m) → get_or l j 0 ≡ pairs m f g h j
     go j b (yes s) = q.is j s
     go j b (no s) = rest j (omega arith) b ∙ rw (le-ltb j m (omega arith))
+
+-- the line of Horizontal down, from its pairs on
+pub past_made : (n : ℕ) (e : List ℕ) (f g : ℕ → ℕ) (l ys : List ℕ) → 2 ≤ n → n ≤ 8 → Line (2 * n) (pairs (2 * n) f g (λ j. mean_round e (10 + j - 2 * n))) l
+    → length ys ≡ length (mid_of (2 * n) (3 * n - 2 - 2 * n) l) → ((k : ℕ) → k < length ys → get_or ys k 0 ≡ mean_round e (10 + k))
+    → Line (3 * n - 2) (pairs (2 * n) f g (λ j. mean_round e (10 + j - 2 * n))) (put_mid (2 * n) (3 * n - 2 - 2 * n) l ys)
+unfolding pairs
+past_made n e f g l ys low high q long here =
+    part_line (2 * n) (3 * n - 2 - 2 * n) (3 * n - 2) _ l ys (omega arith) (omega arith) q long
+    (λ j h.
+    let at : 10 + (2 * n + j) - 2 * n ≡ 10 + j = omega arith in
+    here j h ∙ rw (le-ltb (2 * n + j) (2 * n) (omega arith), at))
 
 -- ---- rows as windows
 -- where rows 2z + 1 and 2z + 2 begin, and that both rows lie in the block
@@ -99,11 +127,11 @@ module _ (n : ℕ) (p : Near) (e : List ℕ) (low : 2 ≤ n) (high : n ≤ 8) (t
   by_row even a odd b up back v f g =
       choose (λ w. w ≡ v) (eqb (y % 2) 0) _ _ (λ h. f (eqb-true _ _ h)) (λ h. g (omega (arith, eqb-false (y % 2) 0 h)))
 
-  pub is_vertical : (line : List ℕ) → Line 8 (λ j. get_or e (11 + j) 0) line → slid line 0 line 0 0 0 x y ≡ p (x + 1) 0
-  is_vertical line q = by_row line 0 line 0 0 0 _ (λ h. here _ (omega arith)) (λ h. here _ (omega arith))
+  pub is_vertical : slid e 11 e 11 0 0 x y ≡ p (x + 1) 0
+  is_vertical = by_row e 11 e 11 0 0 _ (λ h. here _ (omega arith)) (λ h. here _ (omega arith))
     where
-      here : (j : ℕ) → j ≡ x → get_or line j 0 ≡ p (x + 1) 0
-      here j h = q.is j (omega arith) ∙ ap (λ (z : ℕ). get_or e z 0) (omega arith) ∙ run.above (x + 1) (omega arith)
+      here : (j : ℕ) → j ≡ 11 + x → get_or e j 0 ≡ p (x + 1) 0
+      here j h = ap (λ (z : ℕ). get_or e z 0) (omega arith) ∙ run.above (x + 1) (omega arith)
 
   -- the diagonals, from the means of three along the run
   module _ (first count : ℕ) (line : List ℕ) (q : Line count (λ j. mean_in true e (first + j)) line) (far : first + count ≤ 26) where
@@ -198,23 +226,79 @@ module _ (n : ℕ) (p : Near) (e : List ℕ) (low : 2 ≤ n) (high : n ≤ 8) (t
           (λ l s. three_at e (15 - j) (7 - j / 2) (omega arith) ∙ at_horizontal_up n p e low high run x y (15 - j) hx hy (omega arith) (omega arith))
           (λ l. past_horizontal_up n p e low high run x y (omega arith))
 
--- ---- whole blocks of the modes that take no means
-module _ (n : ℕ) (p : Near) (e : List ℕ) (low : 2 ≤ n) (high : n ≤ 8) (two : n % 2 ≡ 0) (run : Run n p e) (above left : Bool) {mode : ℕ} (old : List ℕ) {out : List ℕ}
-    (len : length old ≡ n * n) where
-  pub vertical_rows : mode ≡ 0 → (line : List ℕ) → Line 8 (λ j. get_or e (11 + j) 0) line → out ≡ onto (n * n) (λ k. slid line 0 line 0 0 0 (k % n) (k / n)) old
-      → out ≡ block_of n (pred_nxn n mode above left p)
-  unfolding pred_nxn
-  vertical_rows h line q put =
-      rows_are n (λ x y. slid line 0 line 0 0 0 x y) (pred_nxn n mode above left p) old len put
-      (λ x y hx hy. rw h (is_vertical n p e low high two run x y hx hy line q))
+-- ---- whole blocks, mode by mode
+-- the windows are put, and the block is drawn
+abbrev Put : ℕ → List ℕ → ℕ → List ℕ → ℕ → ℕ → ℕ → List ℕ → List ℕ → Type 0
+Put n even a odd b up back old out = out ≡ onto (n * n) (λ k. slid even a odd b up back (k % n) (k / n)) old
 
-  pub horizontal_rows : mode ≡ 1 → out ≡ onto (n * n) (λ k. get_or e (9 - k / n) 0) old → out ≡ block_of n (pred_nxn n mode above left p)
+abbrev Drawn : ℕ → ℕ → Bool → Bool → Near → List ℕ → Type 0
+Drawn n mode above left p out = out ≡ block_of n (pred_nxn n mode above left p)
+
+module _ (n : ℕ) (p : Near) (e : List ℕ) (low : 2 ≤ n) (high : n ≤ 8) (two : n % 2 ≡ 0) (run : Run n p e) (above left : Bool) {mode : ℕ}
+    (old : List ℕ) {out : List ℕ} (len : length old ≡ n * n) where
+  pub vertical_rows : mode ≡ 0 → Put n e 11 e 11 0 0 old out → Drawn n mode above left p out
+  unfolding pred_nxn
+  vertical_rows h put =
+      rows_are n (λ x y. slid e 11 e 11 0 0 x y) (pred_nxn n mode above left p) old len put
+      (λ x y hx hy. rw h (is_vertical n p e low high two run x y hx hy))
+
+  pub horizontal_rows : mode ≡ 1 → out ≡ onto (n * n) (λ k. get_or e (9 - k / n) 0) old
+      → Drawn n mode above left p out
   unfolding pred_nxn
   horizontal_rows h put =
       rows_are n (λ x y. get_or e (9 - y) 0) (pred_nxn n mode above left p) old len put
       (λ x y hx hy. rw h (ap (λ (k : ℕ). get_or e k 0) (omega arith) ∙ run.left (y + 1) (omega arith)))
 
-  pub dc_rows : mode ≡ 2 → (v : ℕ) → v ≡ dc n above left p → out ≡ replicate (length (mid_of 0 (n * n - 0) old)) v
-      → put_mid 0 (n * n - 0) old out ≡ block_of n (pred_nxn n mode above left p)
+  pub dc_rows : mode ≡ 2 → (v : ℕ) → v ≡ dc n above left p → out ≡ replicate (length (take (n * n) old)) v
+      → out ++ drop (n * n) old ≡ block_of n (pred_nxn n mode above left p)
   unfolding pred_nxn
-  dc_rows h v q put = fill_block n v (pred_nxn n mode above left p) old len put (λ x y. rw h q)
+  dc_rows h v q put =
+      let whole : n * n - 0 ≡ n * n = omega arith in
+      rw whole at (fill_block n v (pred_nxn n mode above left p) old {ys = out} len (rw whole put) (λ x y. rw h q))
+
+  pub down_left_rows : mode ≡ 3 → (line : List ℕ) → Line (2 * n) (λ j. mean_in true e (10 + j)) line → Put n line 1 line 2 2 0 old out
+      → Drawn n mode above left p out
+  unfolding pred_nxn
+  down_left_rows h line q put =
+      rows_are n (λ x y. slid line 1 line 2 2 0 x y) (pred_nxn n mode above left p) old len put
+      (λ x y hx hy. rw h (is_down_left n p e low high two run x y hx hy 10 (2 * n) line q (omega arith) 1 2 refl refl (omega arith)))
+
+  pub down_right_rows : mode ≡ 4 → (line : List ℕ) → Line (2 * n) (λ j. mean_in true e (10 - n + j)) line
+      → Put n line (n - 1) line (n - 2) 0 2 old out → Drawn n mode above left p out
+  unfolding pred_nxn
+  down_right_rows h line q put =
+      rows_are n (λ x y. slid line (n - 1) line (n - 2) 0 2 x y) (pred_nxn n mode above left p) old len put
+      (λ x y hx hy.
+      rw h (is_down_right n p e low high two run x y hx hy (10 - n) (2 * n) line q (omega arith) (n - 1) (n - 2) (omega arith) (omega arith) (omega arith) (omega arith)))
+
+  pub vertical_right_rows : mode ≡ 5 → (even odd : List ℕ)
+      → Line (n / 2 - 1 + n) (λ j. cond (ltb j (n / 2 - 1)) (mean_round e (12 - n + 2 * j)) (mean_in false e (10 - n / 2 + j))) even
+      → Line (n / 2 - 1 + n) (λ j. cond (ltb j (n / 2 - 1)) (mean_round e (11 - n + 2 * j)) (mean_in true e (10 - n / 2 + j))) odd
+      → Put n even (n / 2 - 1) odd (n / 2 - 1) 0 1 old out → Drawn n mode above left p out
+  unfolding pred_nxn
+  vertical_right_rows h even odd q r put =
+      rows_are n (λ x y. slid even (n / 2 - 1) odd (n / 2 - 1) 0 1 x y) (pred_nxn n mode above left p) old len put
+      (λ x y hx hy. rw h (is_vertical_right n p e low high two run x y hx hy (n / 2 - 1) (12 - n) (11 - n) even odd (omega arith) (omega arith) (omega arith) q r))
+
+  pub horizontal_down_rows : mode ≡ 6 → (line : List ℕ)
+      → Line (3 * n - 2) (pairs (2 * n) (λ i. mean_from e (9 - n + i)) (λ i. mean_round e (10 - n + i)) (λ j. mean_round e (10 + j - 2 * n))) line
+      → Put n line (2 * n - 2) line (2 * n - 4) 0 4 old out → Drawn n mode above left p out
+  unfolding pred_nxn
+  horizontal_down_rows h line q put =
+      rows_are n (λ x y. slid line (2 * n - 2) line (2 * n - 4) 0 4 x y) (pred_nxn n mode above left p) old len put
+      (λ x y hx hy. rw h (is_horizontal_down n p e low high two run x y hx hy (2 * n - 2) (2 * n - 4) line (omega arith) (omega arith) q))
+
+  pub vertical_left_rows : mode ≡ 7 → (even odd : List ℕ) → Line (n + n / 2 - 1) (λ j. mean_in false e (10 + j)) even → Line (n + n / 2 - 1) (λ j. mean_in true e (11 + j)) odd
+      → Put n even 0 odd 0 1 0 old out → Drawn n mode above left p out
+  unfolding pred_nxn
+  vertical_left_rows h even odd q r put =
+      rows_are n (λ x y. slid even 0 odd 0 1 0 x y) (pred_nxn n mode above left p) old len put
+      (λ x y hx hy. rw h (is_vertical_left n p e low high two run x y hx hy (n + n / 2 - 1) even odd (omega arith) q r))
+
+  pub horizontal_up_rows : mode ≡ 8 → (line : List ℕ)
+      → Line (3 * n - 2) (pairs (2 * n - 2) (λ i. mean_from e (7 - i)) (λ i. mean_round e (7 - i)) (λ _. get_or e (10 - n) 0)) line
+      → Put n line 0 line 2 4 0 old out → Drawn n mode above left p out
+  unfolding pred_nxn
+  horizontal_up_rows h line q put =
+      rows_are n (λ x y. slid line 0 line 2 4 0 x y) (pred_nxn n mode above left p) old len put
+      (λ x y hx hy. rw h (is_horizontal_up n p e low high two run x y hx hy line q))

@@ -4,60 +4,58 @@ ghost use Rattle.basics.specs.Near.{Near};
 ghost use Rattle.intra_nxn.specs.IntraNxN.{mean3, filtered};
 ghost use Rattle.intra_nxn.specs.inner.Run.{Run, Filtered};
 
-use super::run::mean3;
+use super::run::{Neighbours, mean3};
+use basics::marks::Sides;
 
-// The run of the filtered neighbours: the means of three, but next to the corner and at it, where a neighbour may be absent.
-pub(crate) fn filtered_of(e: &[u8; 32], above: bool, left: bool, corner: bool) -> [u8; 32]
-    ensures { (p : Near) → Run 8 p e.now → Run 8 (filtered 8 above left corner p) result }
-{
-    let mut f = means_of(e);
-    f[9] = first_left(e, corner);
-    f[10] = at_corner(e, above, left);
-    f[11] = first_above(e, corner);
-    f
+impl<const N: usize> Neighbours<N> {
+    // The run of the filtered neighbours: the means of three, but next to the corner and at it, where a neighbour may be absent.
+    #[inline(always)]
+    pub(crate) fn filtered(&self, sides: Sides) -> Neighbours<N>
+        requires { N ≡ 8 }
+        ensures { (p : Near) → Run N p self.now.run → Run N (filtered N sides.above sides.left sides.corner p) result.run }
+    {
+        let e = &self.run;
+        let mut run = self.means();
+        run[9] = first_left(e, sides.corner);
+        run[10] = at_corner(e, sides.above, sides.left);
+        run[11] = first_above(e, sides.corner);
+        Neighbours { run }
+    }
+
+    // The means of three all along the run, and at its ends those next to them once more.
+    #[inline(always)]
+    fn means(&self) -> [u8; 32]
+        ensures { Filtered self.now.run result }
+    {
+        let mut run = [0u8; 32];
+        for (i, x) in run[2..27].iter_mut().enumerate() {
+            *x = self.mean_round(1 + i);
+        }
+        run[1] = run[2];
+        run[27] = run[26];
+        run
+    }
 }
 
 fn first_left(e: &[u8; 32], corner: bool) -> u8
     ensures { result ≡ mean3 (get_or e.now 8 0) (get_or e.now 9 0)
         (cond corner (get_or e.now 10 0) (get_or e.now 9 0)) }
 {
-    mean3(e[8], e[9], either_of(corner, e[10], e[9]))
+    mean3(e[8], e[9], if corner { e[10] } else { e[9] })
 }
 
 fn at_corner(e: &[u8; 32], above: bool, left: bool) -> u8
     ensures { result ≡ mean3 (cond left (get_or e.now 9 0) (get_or e.now 10 0)) (get_or e.now 10 0)
         (cond above (get_or e.now 11 0) (get_or e.now 10 0)) }
 {
-    mean3(
-        either_of(left, e[9], e[10]),
-        e[10],
-        either_of(above, e[11], e[10]),
-    )
+    let from_left = if left { e[9] } else { e[10] };
+    let from_above = if above { e[11] } else { e[10] };
+    mean3(from_left, e[10], from_above)
 }
 
 fn first_above(e: &[u8; 32], corner: bool) -> u8
     ensures { result ≡ mean3 (cond corner (get_or e.now 10 0) (get_or e.now 11 0)) (get_or e.now 11 0)
         (get_or e.now 12 0) }
 {
-    mean3(either_of(corner, e[10], e[11]), e[11], e[12])
-}
-
-// The means of three all along the run, and at its ends those next to them once more.
-fn means_of(e: &[u8; 32]) -> [u8; 32]
-    ensures { Filtered e.now result }
-{
-    let mut f = [0u8; 32];
-    for i in 2..27 {
-        f[i] = mean3(e[i - 1], e[i], e[i + 1]);
-    }
-    f[1] = f[2];
-    f[27] = f[26];
-    f
-}
-
-// The first where the mark is set, else the second.
-fn either_of(on: bool, a: u8, b: u8) -> u8
-    ensures { result ≡ cond on a b }
-{
-    if on { a } else { b }
+    mean3(if corner { e[10] } else { e[11] }, e[11], e[12])
 }

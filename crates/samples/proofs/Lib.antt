@@ -3,5 +3,6 @@ mod Held
 mod IntraPlane
 mod PlaneMode
 mod Ramp
-mod Whole
+mod Rows
+mod Drawn
 pub mod WholePromise

@@ -1,7 +1,7 @@
 -- Plane prediction: its slopes over a line, and its samples. Assumes nothing.
 use mathlib.Core.Path.{◌≡◌, ap, ap₂, ◌∙◌}
 use mathlib.Core.List.{List}
-use Prim.Native.Nat.{ℕ, ◌+◌, ◌-◌, ◌*◌, ◌≤◌, ◌<◌}
+use Prim.Native.Nat.{ℕ, zero, suc, ◌+◌, ◌-◌, ◌*◌, ◌≤◌, ◌<◌}
 use native.Mathlib.Omega.{arith}
 use lib.IntN.{ℤ, pos, nat_abs, ◌+ℤ◌, ◌-ℤ◌, ◌*ℤ◌}
 use borrow.Author.Tests.{ne_eqb}
@@ -11,12 +11,13 @@ use mir.Val.{to_z, of_z}
 use mir.ValLaws.{to_z_pos}
 use Rattle.laws.specs.Range.{Within}
 use Rattle.laws.specs.Table.{sum_z, onto}
-use Rattle.laws.proofs.Ints.{abs_add, within_back, back}
+use Rattle.laws.proofs.Ints.{abs_add, back}
 use Rattle.laws.proofs.Ontos.{onto_at}
 use Rattle.laws.proofs.Sums.{sum_z_same, sum_z_more}
-use Rattle.basics.specs.Near.{Near, near}
+use Rattle.basics.specs.Near.{Near}
 use Rattle.samples.specs.PlaneMode.{slope, gradient, ramp, plane}
-use Rattle.samples.specs.inner.Line.{line}
+use Rattle.samples.specs.declared.line.Around.{Around}
+use Rattle.samples.specs.inner.Line.{sample, line, Stands}
 use Rattle.samples.specs.inner.Plane.{Sloped}
 
 -- what is read back from the bits of a number
@@ -61,31 +62,37 @@ plane_same m k p q one above left =
 
 -- a, b and c as the machine computes them, from the two lines, are the neighbourhood's
 module _ (m k corner : ℕ) (one : 1 ≤ m) where
-  abbrev pub Read : List ℕ → List ℕ → Type 0
+  abbrev pub Read : (ℕ → ℕ) → List ℕ → Type 0
   Read side e = e ≡ onto (2 * m + 1) (line corner side) (replicate 17 0)
 
-  sloping : (side e : List ℕ) {h b : ℤ} → Read side e → (h ≡ slope m (λ i. get_or e i 0)) × Within 32640 h → (b ≡ gradient k (rd h)) × Within 2219552 b
-      → rd b ≡ gradient k (slope m (line corner side))
-  sloping side e {h} {b} r (hs, hw) (bs, bw) =
-      back 2219552 bw tt ∙ bs ∙ ap (gradient k) (back 32640 hw tt ∙ hs ∙ slope_same m _ _ one (λ i l. onto_at (2 * m + 1) _ _ e 0 i r (omega arith)))
+  -- a line that is read holds the samples of one side, from the corner on
+  held : (side p : ℕ → ℕ) (e : List ℕ) → corner ≡ p 0 → ((i : ℕ) → i < 2 * m → side i ≡ p (i + 1)) → Read side e → (i : ℕ) → i ≤ 2 * m → get_or e i 0 ≡ p i
+  held side p e first same r i l = onto_at (2 * m + 1) _ _ e 0 i r (omega arith) ∙ go i l
+    where
+      go : (i : ℕ) → i ≤ 2 * m → line corner side i ≡ p i
+      go zero l = first
+      go (suc i) l = let z : suc i - 1 ≡ i = omega arith in rw (ne_eqb (suc i) 0 (omega arith), z) (same i (omega arith) ∙ ap p (omega arith))
 
-  pub sloped : (top left e f : List ℕ) {a h v b c : ℤ} → Read top e → Read left f
-      → (a ≡ pos 16 *ℤ (pos (get_or left (2 * m - 1) 0) +ℤ pos (get_or top (2 * m - 1) 0))) × Within 8160 a
+  sloping : (s : ℕ → ℕ) (e : List ℕ) {h b : ℤ} → ((i : ℕ) → i ≤ 2 * m → get_or e i 0 ≡ s i) → (h ≡ slope m (λ i. get_or e i 0)) × Within 32640 h
+      → (b ≡ gradient k (rd h)) × Within 2219552 b → rd b ≡ gradient k (slope m s)
+  sloping s e {h} {b} r (hs, hw) (bs, bw) = back 2219552 bw tt ∙ bs ∙ ap (gradient k) (back 32640 hw tt ∙ hs ∙ slope_same m _ _ one r)
+
+  pub sloped : (a : Around) (p : Near) (e f : List ℕ) {v h w b c : ℤ} → corner ≡ p 0 0 → Stands (2 * m) a p → Read (sample a.above) e → Read (sample a.left) f
+      → (x y : ℕ) → x ≡ sample a.left (2 * m - 1) → y ≡ sample a.above (2 * m - 1) → (v ≡ pos 16 *ℤ (pos x +ℤ pos y)) × Within 8160 v
       → (h ≡ slope m (λ i. get_or e i 0)) × Within 32640 h → (b ≡ gradient k (rd h)) × Within 2219552 b
-      → (v ≡ slope m (λ i. get_or f i 0)) × Within 32640 v → (c ≡ gradient k (rd v)) × Within 2219552 c
-      → Sloped m k (near top left corner) (rd a) (rd b) (rd c)
-  unfolding near
-  sloped top left e f re rf (ae, aw) h b v c =
+      → (w ≡ slope m (λ i. get_or f i 0)) × Within 32640 w → (c ≡ gradient k (rd w)) × Within 2219552 c
+      → Sloped m k p (rd v) (rd b) (rd c)
+  sloped a p e f first near re rf x y ex ey (ve, vw) h b w c =
+      let last : 2 * m - 1 + 1 ≡ 2 * m = omega arith in
+      let l : sample a.left (2 * m - 1) ≡ p 0 (2 * m) = near.left_is (2 * m - 1) (omega arith) ∙ ap (λ (i : ℕ). p 0 i) last in
+      let t : sample a.above (2 * m - 1) ≡ p (2 * m) 0 = near.above_is (2 * m - 1) (omega arith) ∙ ap (λ (i : ℕ). p i 0) last in
       record {
-        a_is = back 8160 aw tt ∙ ae ∙ rw (ne_eqb (2 * m) 0 (omega arith));
-        b_is = sloping top e re h b;
-        c_is = sloping left f rf v c;
-        a_small = within_back 8160 _ tt aw;
-        b_small = within_back 2219552 _ tt b.1;
-        c_small = within_back 2219552 _ tt c.1;
+        a_is = back 8160 vw tt ∙ ve ∙ ap₂ (λ (x y : ℕ). pos 16 *ℤ (pos x +ℤ pos y)) (ex ∙ l) (ey ∙ t);
+        b_is = sloping (λ i. p i 0) e (held (sample a.above) (λ i. p i 0) e first near.above_is re) h b;
+        c_is = sloping (p 0) f (held (sample a.left) (p 0) f first near.left_is rf) w c;
       }
 
 -- the samples of a, b and c are the plane's
-pub plane_is : (m k : ℕ) (p : Near) {a b c : ℤ} → Sloped m k p a b c → (x y : ℕ) → ramp (m - 1) (rd a) (rd b) (rd c) x y ≡ plane m k p x y
+pub plane_is : (m k : ℕ) (p : Near) {a b c : ℤ} → Sloped m k p a b c → (x y : ℕ) → ramp (m - 1) a b c x y ≡ plane m k p x y
 unfolding plane
-plane_is m k p s x y = rw (back 8160 s.a_small tt ∙ s.a_is, back 2219552 s.b_small tt ∙ s.b_is, back 2219552 s.c_small tt ∙ s.c_is)
+plane_is m k p s x y = rw (s.a_is, s.b_is, s.c_is)

@@ -1,161 +1,125 @@
 // Intra prediction of an 8x8 block of chroma samples (clause 8.3.4): 0 DC, 1 horizontal, 2 vertical, 3 plane.
-ghost use Rattle.std.specs.Prelude.{◌≡◌, not, ◌&&◌, ◌++◌, ℕ, ◌+◌, ◌*◌, ◌/◌, ◌%◌, ◌≤◌, length, get_or, drop, replicate};
+ghost use Rattle.std.specs.Prelude.{◌≡◌, ◌++◌, ◌+◌, ◌*◌, ◌/◌, ◌%◌, ◌≤◌, length, get_or, drop, IfOk};
 ghost use Rattle.laws.specs.Answer.{written};
 ghost use Rattle.laws.specs.Table.{table, block_of, onto};
+ghost use Rattle.refusals.specs.Refusal.{number_of};
 ghost use Rattle.basics.specs.Marks.{permitted_chroma, mode_answer, pred_answer};
-ghost use Rattle.basics.specs.Near.{near};
+ghost use Rattle.basics.specs.Modes.{chroma_mode};
+ghost use Rattle.basics.specs.Near.{Near, near};
 ghost use Rattle.samples.specs.IntraChroma.{region_dc, chroma_dc, pred_c};
+ghost use Rattle.samples.specs.inner.Line.{Round, Stands};
 
-use super::line::{across, down, sum_of};
+use super::line::{Around, across, down};
 use super::plane_mode::plane_over;
-use basics::fill::fill;
-use basics::marks::{lists_answer, mode_answer, permits_chroma};
+use super::whole::{Whole, pred, pred_into};
+use basics::beside::Beside;
+use basics::marks::Sides;
 use basics::mean::mean_of;
+use basics::modes::ChromaMode;
+use refusals::Refusal;
 
-// The answer, and the block in raster order, zeros where the call is refused.
-#[derive(Drop)]
-pub struct PredChroma {
-    pub answer: u32,
-    pub block: [u8; 64],
-}
-
-// The block of DC, from the marks of above and left and their samples.
+// The block of DC, from the marks of above and left and their samples, in arrays of eight, so that nothing is refused; what stands beside a block comes in lists.
 pub fn chroma8x8_dc(avail_top: bool, avail_left: bool, top: &[u8; 8], left: &[u8; 8]) -> [u8; 64]
     ensures { result ≡ block_of 8 (chroma_dc avail_top avail_left (near top.now left.now 0)) }
 {
+    let sides = Sides {
+        above: avail_top,
+        left: avail_left,
+        corner: false,
+        above_right: false,
+    };
+    let beside = Beside {
+        sides,
+        above: top,
+        left,
+        corner: 0,
+    };
     let mut out = [0u8; 64];
-    dc_chroma(avail_top, avail_left, top, left, &mut out);
+    dc_chroma(Around::from(beside), &mut out);
     out
 }
 
 // The block of a mode, from the marks, the row above, the column to the left and the sample at the corner.
 pub fn chroma8x8_pred(
     mode: u8,
-    avail_top: bool,
-    avail_left: bool,
-    avail_corner: bool,
+    sides: Sides,
     top: &[u8; 8],
     left: &[u8; 8],
     corner: u8,
-) -> PredChroma
-    ensures answer { result.answer ≡ mode_answer 3 (permitted_chroma avail_top avail_left avail_corner) mode }
-    ensures block { result.block ≡ written result.answer (replicate 64 0)
-        (block_of 8 (pred_c mode avail_top avail_left (near top.now left.now corner))) }
+) -> Result<[u8; 64], Refusal>
+    ensures answer { number_of result ≡ mode_answer 3 (permitted_chroma sides.above sides.left sides.corner) mode }
+    ensures block { IfOk result (λ b. b ≡ block_of 8 (pred_c mode sides.above sides.left (near top.now left.now corner))) }
 {
-    let mut block = [0u8; 64];
-    let answer = chroma8x8_pred_into(
-        mode,
-        avail_top,
-        avail_left,
-        avail_corner,
-        top,
-        left,
-        corner,
-        &mut block,
-    );
-    PredChroma { answer, block }
+    pred::<ChromaMode, 64>(mode, sides, top, left, corner)
 }
 
 // The same over lists, the block put into lent memory.
-pub fn chroma8x8_pred_into(
-    mode: u8,
-    avail_top: bool,
-    avail_left: bool,
-    avail_corner: bool,
-    top: &[u8],
-    left: &[u8],
-    corner: u8,
-    out: &mut [u8],
-) -> u32
-    ensures answer { result ≡ pred_answer 8 8 (length top.now) (length left.now) (length out.old)
-        3 (permitted_chroma avail_top avail_left avail_corner) mode }
-    ensures lent { out.new ≡ written result out.old
-        (block_of 8 (pred_c mode avail_top avail_left (near top.now left.now corner))) }
+pub fn chroma8x8_pred_into(mode: u8, beside: Beside, out: &mut [u8]) -> Result<(), Refusal>
+    ensures answer { number_of result ≡ pred_answer 8 8 (length beside.entry.above.now) (length beside.entry.left.now)
+        (length out.old) 3 (permitted_chroma beside.entry.sides.above beside.entry.sides.left beside.entry.sides.corner) mode }
+    ensures lent { out.new ≡ written (number_of result) out.old
+        (block_of 8 (pred_c mode beside.entry.sides.above beside.entry.sides.left
+        (near beside.entry.above.now beside.entry.left.now beside.entry.corner))) }
 {
-    let sized = lists_answer(8, 8, top.len(), left.len(), out.len());
-    if sized != 0 {
-        return sized;
-    }
-    let permitted = permits_chroma(mode, avail_top, avail_left, avail_corner);
-    let answer = mode_answer(mode, 3, permitted);
-    if answer != 0 {
-        return answer;
-    }
-    // Lent on by their lengths, so that the compiled code looks up where the lists stand before it writes, and hands that on in registers.
-    predict_chroma(
-        mode,
-        avail_top,
-        avail_left,
-        &top[..8],
-        &left[..8],
-        corner,
-        out,
-    );
-    0
+    pred_into::<ChromaMode>(mode, beside, out)
 }
 
-// The block of a mode over the first 64 bytes of `out`.
-fn predict_chroma(
-    mode: u8,
-    avail_top: bool,
-    avail_left: bool,
-    top: &[u8],
-    left: &[u8],
-    corner: u8,
-    out: &mut [u8],
-)
-    requires { (mode ≤ 3) × (8 ≤ length top.now) × (8 ≤ length left.now) × (64 ≤ length out.old) }
-    ensures { out.new
-        ≡ block_of 8 (pred_c mode avail_top avail_left (near top.now left.now corner)) ++ drop 64 out.old }
-{
-    if mode < 1 {
-        dc_chroma(avail_top, avail_left, top, left, out);
-        return;
+impl Whole for ChromaMode {
+    ghost SIDE = { 8 };
+
+    ghost number = { chroma_mode };
+
+    ghost permits = { permitted_chroma };
+
+    ghost predicted = { pred_c };
+
+    const SIDE: u8 = 8;
+
+    fn checked(mode: u8, sides: Sides) -> Result<ChromaMode, Refusal> {
+        ChromaMode::permitted(mode, sides)
     }
-    if mode < 2 {
-        across(8, left, 0, 1, out);
-        return;
+
+    #[inline(always)]
+    fn predict(self, around: Around, out: &mut [u8]) {
+        match self {
+            ChromaMode::Dc => dc_chroma(around, out),
+            ChromaMode::Horizontal => across::<8>(around.left, out),
+            ChromaMode::Vertical => down::<8>(around.above, out),
+            ChromaMode::Plane => plane_over(4, 34, around, out),
+        }
     }
-    if mode < 3 {
-        down(8, top, out);
-        return;
-    }
-    plane_over(4, 34, top, left, corner, out);
 }
 
 // DC, which does not read the corner.
-fn dc_chroma(avail_top: bool, avail_left: bool, top: &[u8], left: &[u8], out: &mut [u8])
-    requires { (8 ≤ length top.now) × (8 ≤ length left.now) × (64 ≤ length out.old) }
-    ensures { (corner : ℕ) → out.new
-        ≡ block_of 8 (chroma_dc avail_top avail_left (near top.now left.now corner)) ++ drop 64 out.old }
+#[inline(always)]
+fn dc_chroma(around: Around, out: &mut [u8])
+    requires { Round 8 around × (64 ≤ length out.old) }
+    ensures { (p : Near) → Stands 8 around.entry p
+        → out.new ≡ block_of 8 (chroma_dc around.entry.sides.above around.entry.sides.left p) ++ drop 64 out.old }
 {
-    let d = regions(avail_top, avail_left, top, left);
+    let d = regions(around);
     spread(&d, out);
 }
 
 // The means of the regions (0, 0), (4, 0), (0, 4) and (4, 4).
-fn regions(avail_top: bool, avail_left: bool, top: &[u8], left: &[u8]) -> [u8; 4]
-    requires { (8 ≤ length top.now) × (8 ≤ length left.now) }
-    ensures { (corner : ℕ) → result
-        ≡ table 4 (λ k. region_dc avail_top avail_left (near top.now left.now corner) (k % 2 * 4) (k / 2 * 4)) }
+#[inline(always)]
+fn regions(around: Around) -> [u8; 4]
+    requires { Round 8 around }
+    ensures { (p : Near) → Stands 8 around.entry p
+        → result ≡ table 4 (λ k. region_dc around.entry.sides.above around.entry.sides.left p (k % 2 * 4) (k / 2 * 4)) }
 {
-    let a0 = sum_of(4, top, 0, 1);
-    let a4 = sum_of(4, top, 4, 1);
-    let l0 = sum_of(4, left, 0, 1);
-    let l4 = sum_of(4, left, 4, 1);
+    let above = around.sides.above;
+    let left = around.sides.left;
+    let a0 = around.above.sum(0, 4);
+    let a4 = around.above.sum(4, 4);
+    let l0 = around.left.sum(0, 4);
+    let l4 = around.left.sum(4, 4);
     [
-        mean_of(4, avail_top, avail_left, a0, l0),
-        mean_of(4, avail_top, only(avail_left, avail_top), a4, l0),
-        mean_of(4, only(avail_top, avail_left), avail_left, a0, l4),
-        mean_of(4, avail_top, avail_left, a4, l4),
+        mean_of(4, above, left, a0, l0),
+        mean_of(4, above, left & !above, a4, l0),
+        mean_of(4, above & !left, left, a0, l4),
+        mean_of(4, above, left, a4, l4),
     ]
-}
-
-// Whether a holds and b does not.
-fn only(a: bool, b: bool) -> bool
-    ensures { result ≡ a && not b }
-{
-    if b { false } else { a }
 }
 
 // Each region's mean over its 4x4 samples.
@@ -163,8 +127,9 @@ fn spread(d: &[u8; 4], out: &mut [u8])
     requires { 64 ≤ length out.old }
     ensures { out.new ≡ onto 64 (λ k. get_or d.now (k / 32 * 2 + k % 8 / 4) 0) out.old }
 {
+    // y is the row's number, from which its place and its two regions follow.
     for y in 0..8 {
-        fill(d[y / 4 * 2], &mut out[8 * y..8 * y + 4]);
-        fill(d[y / 4 * 2 + 1], &mut out[8 * y + 4..8 * y + 8]);
+        out[8 * y..8 * y + 4].fill(d[y / 4 * 2]);
+        out[8 * y + 4..8 * y + 8].fill(d[y / 4 * 2 + 1]);
     }
 }

@@ -1,76 +1,118 @@
 // Lines of samples beside a block: read, summed, and copied over a block.
-ghost use Rattle.std.specs.Prelude.{◌≡◌, ℕ, ◌+◌, ◌*◌, ◌/◌, ◌%◌, ◌≤◌, ◌<◌, length, get_or, replicate};
-ghost use Rattle.laws.specs.Table.{sum_of, onto};
-ghost use Rattle.samples.specs.inner.Line.{line};
+ghost use Rattle.std.specs.Prelude.{◌≡◌, ◌+◌, ◌*◌, ◌/◌, ◌%◌, ◌≤◌, ◌<◌, length, replicate};
+ghost use Rattle.laws.specs.Table.{table, sum_of, onto};
+ghost use Rattle.samples.specs.inner.Line.{sample, Reaches, line, lists};
 
-use basics::fill::fill;
-use basics::mean::wide;
+use basics::beside::Beside;
+use basics::marks::Sides;
+
+// The samples of a list from `at` on, `stride` apart.
+#[derive(Clone, Copy)]
+pub(crate) struct Line<'a> {
+    pub samples: &'a [u8],
+    pub at: usize,
+    pub stride: usize,
+}
+
+// What stands beside a block: which of its sides are there, the lines above and left, and the corner.
+#[derive(Clone, Copy)]
+pub(crate) struct Around<'a> {
+    pub sides: Sides,
+    pub above: Line<'a>,
+    pub left: Line<'a>,
+    pub corner: u8,
+}
+
+impl<'a> From<Beside<'a>> for Around<'a> {
+    ghost from_gives = { λ b a. a ≡ lists b };
+
+    fn from(b: Beside<'a>) -> Around<'a> {
+        Around {
+            sides: b.sides,
+            above: Line {
+                samples: b.above,
+                at: 0,
+                stride: 1,
+            },
+            left: Line {
+                samples: b.left,
+                at: 0,
+                stride: 1,
+            },
+            corner: b.corner,
+        }
+    }
+}
+
+impl<'a> Line<'a> {
+    // Sample i.
+    pub(crate) fn get(self, i: usize) -> u8
+        requires { self.at + i * self.stride < length self.samples.now }
+        ensures { result ≡ sample self.entry i }
+    {
+        self.samples[self.at + i * self.stride]
+    }
+
+    // The first N samples, in an array of their own.
+    pub(crate) fn first<const N: usize>(self) -> [u8; N]
+        requires { Reaches N self }
+        ensures { result ≡ table N (sample self.entry) }
+    {
+        let mut f = [0u8; N];
+        // i is a place of the array and a step along the line.
+        for i in 0..N {
+            f[i] = self.get(i);
+        }
+        f
+    }
+
+    // The sum of the n samples from number `from` on.
+    pub(crate) fn sum(self, from: usize, n: usize) -> u32
+        requires { (n ≤ 16) × (from ≤ 16) × Reaches (from + n) self }
+        ensures { (result ≡ sum_of n (λ i. sample self.entry (from + i))) × (result ≤ 255 * n) }
+    {
+        let mut s = 0;
+        // i is a step along the line.
+        for i in 0..n {
+            s += u32::from(self.get(from + i));
+        }
+        s
+    }
+}
 
 // The corner and the n samples of a side.
-pub(crate) fn line_of(n: usize, corner: u8, side: &[u8]) -> [u8; 17]
-    requires { (n ≤ 16) × (n ≤ length side.now) }
-    ensures { result ≡ onto (n + 1) (line corner side.now) (replicate 17 0) }
+pub(crate) fn line_of(n: usize, corner: u8, side: Line) -> [u8; 17]
+    requires { (n ≤ 16) × Reaches n side }
+    ensures { result ≡ onto (n + 1) (line corner (sample side.entry)) (replicate 17 0) }
 {
     let mut e = [0u8; 17];
     e[0] = corner;
-    for i in 1..n + 1 {
-        e[i] = side[i - 1];
+    // i is a place of the array and a step along the line.
+    for i in 0..n {
+        e[i + 1] = side.get(i);
     }
     e
 }
 
-// The n samples from `at` on, `stride` apart: a side of a block, in an array of its own.
-pub(crate) fn side_of(n: usize, plane: &[u8], at: usize, stride: usize) -> [u8; 16]
-    requires { (n ≤ 16) × ((i : ℕ) → i < n → at + i * stride < length plane.now) }
-    ensures { result ≡ onto n (λ i. get_or plane.now (at + i * stride) 0) (replicate 16 0) }
+// A block of side N, each row of which is the line above it.
+pub(crate) fn down<const N: usize>(top: Line, out: &mut [u8])
+    requires { (1 ≤ N) × (N ≤ 16) × Reaches N top × (N * N ≤ length out.old) }
+    ensures { out.new ≡ onto (N * N) (λ k. sample top.entry (k % N)) out.old }
 {
-    let mut f = [0u8; 16];
-    for i in 0..n {
-        f[i] = plane[at + i * stride];
-    }
-    f
-}
-
-// The sum of the n samples from `at` on, `stride` apart.
-pub(crate) fn sum_of(n: usize, plane: &[u8], at: usize, stride: usize) -> u32
-    requires { (n ≤ 16) × ((i : ℕ) → i < n → at + i * stride < length plane.now) }
-    ensures { (result ≡ sum_of n (λ i. get_or plane.now (at + i * stride) 0)) × (result ≤ 255 * n) }
-{
-    let mut s: u32 = 0;
-    for i in 0..n {
-        s += wide(plane[at + i * stride]);
-    }
-    s
-}
-
-// The first n samples of a side over the first n bytes.
-fn copy(side: &[u8], n: usize, out: &mut [u8])
-    requires { (n ≤ length side.now) × (n ≤ length out.old) }
-    ensures { out.new ≡ onto n (λ k. get_or side.now k 0) out.old }
-{
-    for k in 0..n {
-        out[k] = side[k];
+    let row: [u8; N] = top.first();
+    // y is the row's number, from which its place follows.
+    for y in 0..N {
+        out[y * N..y * N + N].copy_from_slice(&row);
     }
 }
 
-// A block of side n, each row of which is the line above it.
-pub(crate) fn down(n: usize, top: &[u8], out: &mut [u8])
-    requires { (1 ≤ n) × (n ≤ 16) × (n ≤ length top.now) × (n * n ≤ length out.old) }
-    ensures { out.new ≡ onto (n * n) (λ k. get_or top.now (k % n) 0) out.old }
+// A block of side N, each row of which is its sample to the left.
+pub(crate) fn across<const N: usize>(left: Line, out: &mut [u8])
+    requires { (1 ≤ N) × (N ≤ 16) × Reaches N left × (N * N ≤ length out.old) }
+    ensures { out.new ≡ onto (N * N) (λ k. sample left.entry (k / N)) out.old }
 {
-    let row = side_of(n, top, 0, 1);
-    for y in 0..n {
-        copy(&row, n, &mut out[y * n..]);
-    }
-}
-
-// A block of side n, each row of which is its sample to the left: those from `at` on, `stride` apart.
-pub(crate) fn across(n: usize, plane: &[u8], at: usize, stride: usize, out: &mut [u8])
-    requires { (1 ≤ n) × (n ≤ 16) × ((i : ℕ) → i < n → at + i * stride < length plane.now) × (n * n ≤ length out.old) }
-    ensures { out.new ≡ onto (n * n) (λ k. get_or plane.now (at + k / n * stride) 0) out.old }
-{
-    for y in 0..n {
-        let row = y * n;
-        fill(plane[at + y * stride], &mut out[row..row + n]);
+    // y is the row's number, from which its place and its sample follow.
+    for y in 0..N {
+        out[y * N..y * N + N].fill(left.get(y));
     }
 }

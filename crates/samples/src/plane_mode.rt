@@ -4,40 +4,43 @@ ghost use Rattle.std.specs.Int.Signed.{shr_z};
 ghost use Rattle.laws.specs.Range.{Within, minus};
 ghost use Rattle.laws.specs.Table.{block_of, onto};
 ghost use Rattle.basics.specs.Clip.{Min, Max, Clip1};
-ghost use Rattle.basics.specs.Near.{near};
+ghost use Rattle.basics.specs.Near.{Near};
 ghost use Rattle.samples.specs.PlaneMode.{slope, gradient, ramp, plane};
+ghost use Rattle.samples.specs.inner.Line.{Round, Stands};
 ghost use Rattle.samples.specs.inner.Plane.{Sloped};
 
-use super::line::line_of;
-use basics::clip::{clip_u8, greatest, least};
+use super::line::{Around, line_of};
+use basics::clip::clip_u8;
 
 // a, b and c of the clauses.
-#[derive(Drop)]
-pub struct Levels {
+#[derive(Clone, Copy)]
+struct Levels {
     pub a: i32,
     pub b: i32,
     pub c: i32,
 }
 
 // The block of side 2m over the first bytes of `out`, from the samples beside it.
-pub(crate) fn plane_over(m: usize, k: u8, top: &[u8], left: &[u8], corner: u8, out: &mut [u8])
-    requires { (1 ≤ m) × (m ≤ 8) × (k ≤ 34) × (2 * m ≤ length top.now) × (2 * m ≤ length left.now) × (2 * m * (2 * m) ≤ length out.old) }
-    ensures { out.new
-        ≡ block_of (2 * m) (plane m k (near top.now left.now corner)) ++ drop (2 * m * (2 * m)) out.old }
+#[inline(always)]
+pub(crate) fn plane_over(m: usize, k: u8, around: Around, out: &mut [u8])
+    requires { (1 ≤ m) × (m ≤ 8) × (k ≤ 34) × Round (2 * m) around × (2 * m * (2 * m) ≤ length out.old) }
+    ensures { (p : Near) → Stands (2 * m) around.entry p → around.entry.corner ≡ p 0 0
+        → out.new ≡ block_of (2 * m) (plane m k p) ++ drop (2 * m * (2 * m)) out.old }
 {
-    let s = levels_of(m, k, top, left, corner);
-    ramp_over(2 * m, m - 1, s.a, s.b, s.c, out);
+    ramp_over(2 * m, m - 1, levels_of(m, k, around), out);
 }
 
 // a, b and c, from the samples beside the block.
-fn levels_of(m: usize, k: u8, top: &[u8], left: &[u8], corner: u8) -> Levels
-    requires { (1 ≤ m) × (m ≤ 8) × (k ≤ 34) × (2 * m ≤ length top.now) × (2 * m ≤ length left.now) }
-    ensures { Sloped m k (near top.now left.now corner) result.a result.b result.c }
+#[inline(always)]
+fn levels_of(m: usize, k: u8, around: Around) -> Levels
+    requires { (1 ≤ m) × (m ≤ 8) × (k ≤ 34) × Round (2 * m) around }
+    ensures small { Within 8160 result.a × Within 2219552 result.b × Within 2219552 result.c }
+    ensures sloped { (p : Near) → Stands (2 * m) around.entry p → around.entry.corner ≡ p 0 0 → Sloped m k p result.a result.b result.c }
 {
-    let e = line_of(2 * m, corner, top);
-    let f = line_of(2 * m, corner, left);
+    let e = line_of(2 * m, around.corner, around.above);
+    let f = line_of(2 * m, around.corner, around.left);
     Levels {
-        a: level_of(left[2 * m - 1], top[2 * m - 1]),
+        a: level_of(around.left.get(2 * m - 1), around.above.get(2 * m - 1)),
         b: gradient_of(k, slope_of(&e, m)),
         c: gradient_of(k, slope_of(&f, m)),
     }
@@ -48,7 +51,7 @@ fn term(p: u8, q: u8, w: i32) -> i32
     requires { Within 8 w }
     ensures { (result ≡ w *ℤ (pos p -ℤ pos q)) × Within 4080 result }
 {
-    w * (p as i32 - q as i32)
+    w * (i32::from(p) - i32::from(q))
 }
 
 // H or V, of a line of 2m + 1 samples.
@@ -56,10 +59,10 @@ fn slope_of(e: &[u8; 17], m: usize) -> i32
     requires { (1 ≤ m) × (m ≤ 8) }
     ensures { (result ≡ slope m (λ i. get_or e.now i 0)) × Within 32640 result }
 {
-    let mut h = 0i32;
+    let mut h = 0;
+    // i is a distance from the middle, to both sides, and the weight.
     for i in 0..m {
-        let w = (i + 1) as i32;
-        h += term(e[m + 1 + i], e[m - 1 - i], w);
+        h += term(e[m + 1 + i], e[m - 1 - i], (i + 1) as i32);
     }
     h
 }
@@ -69,14 +72,14 @@ fn gradient_of(k: u8, h: i32) -> i32
     requires { (k ≤ 34) × Within 32640 h }
     ensures { (result ≡ gradient k h) × Within 2219552 result }
 {
-    (k as i32 * h + 32) >> 6
+    (i32::from(k) * h + 32) >> 6
 }
 
 // a, of the last samples of the two sides.
 fn level_of(p: u8, q: u8) -> i32
     ensures { (result ≡ pos 16 *ℤ (pos p +ℤ pos q)) × Within 8160 result }
 {
-    16 * (p as i32 + q as i32)
+    16 * (i32::from(p) + i32::from(q))
 }
 
 // A column or a row, counted from o.
@@ -91,32 +94,32 @@ fn past(x: usize, o: usize) -> i32
 fn hold(v: i32) -> i16
     ensures { result ≡ Min (Max v (minus 32768)) (pos 32767) }
 {
-    least(greatest(v, -32768), 32767) as i16
+    v.max(-32768).min(32767) as i16
 }
 
 // Clip1( v >> 5 ). What leaves sixteen bits is clipped either way, and in sixteen bits twice as many samples are shifted and clipped at once.
 fn sample_of(v: i32) -> u8
     ensures { result ≡ Clip1 (shr_z v 32) }
 {
-    clip_u8((hold(v) >> 5) as i32)
+    clip_u8(i32::from(hold(v) >> 5))
 }
 
 // A block of side n, column by column, from sums that step: by b from column to column along the row, and by c from row to row down a column. The
 // columns' sums run side by side, and no sample takes a product.
-fn ramp_over(n: usize, o: usize, a: i32, b: i32, c: i32, out: &mut [u8])
-    requires { Within 8160 a × Within 2219552 b × Within 2219552 c × (o < 16) × (1 ≤ n) × (n ≤ 16) × (n * n ≤ length out.old) }
-    ensures { out.new ≡ onto (n * n) (λ k. ramp o a b c (k % n) (k / n)) out.old }
+#[inline(always)]
+fn ramp_over(n: usize, o: usize, s: Levels, out: &mut [u8])
+    requires { Within 8160 s.a × Within 2219552 s.b × Within 2219552 s.c × (o < 16) × (1 ≤ n) × (n ≤ 16) × (n * n ≤ length out.old) }
+    ensures { out.new ≡ onto (n * n) (λ k. ramp o s.a s.b s.c (k % n) (k / n)) out.old }
 {
-    let mut rise = a + b * past(0, o);
-    let lift = c * past(0, o) + 16;
+    let mut rise = s.a + s.b * past(0, o);
+    let lift = s.c * past(0, o) + 16;
+    // x and y are a place: column by column takes half the time of rows in order.
     for x in 0..n {
         let mut at = rise + lift;
-        let mut k = x;
         for y in 0..n {
-            out[k] = sample_of(at);
-            at += c;
-            k += n;
+            out[y * n + x] = sample_of(at);
+            at += s.c;
         }
-        rise += b;
+        rise += s.b;
     }
 }

@@ -53,7 +53,7 @@ module _ (n : ℕ) (pred : ℕ → Bool → Bool → Bool → Near → ℕ → �
   abbrev pub case_sample : Case → ℕ → ℕ → ℕ
   case_sample c = pred c.mode c.avail_top c.avail_left c.avail_corner (near c.top c.left c.corner)
 
-  -- and the block, in the bytes that are lent or as an array
+  -- and the block, in the bytes that are lent, or as an array, for which zeros stand where the call is refused
   abbrev pub lent_block : Case → List ℕ → List ℕ
   lent_block c out = written (lent_answer n c (length out)) out (block_of n (case_sample c))
 

@@ -21,7 +21,7 @@ pub record TurnedBlock (n : ℕ) (pred : ℕ → Bool → Bool → Bool → Near
       → lent_answer n (turned_case n m' right c) lent ≡ lent_answer n c lent
   pub array_answer_is : (c : Case) (m' : ℕ) (right : List ℕ) → partners c.mode m' ≡ true
       → array_answer (turned_case n m' right c) ≡ array_answer c
-  -- and its block is the block transposed, also where both are refused and the lent bytes are as they were, or the block is zeros
+  -- and its block is the block transposed, also where both are refused and the lent bytes are as they were, or zeros stand for it
   pub lent_block_is : (c : Case) (m' : ℕ) (right out : List ℕ) → partners c.mode m' ≡ true → Sized n c → length right ≡ n → length out ≡ n * n
       → (c.avail_top ≡ true → Asks (λ k. get_or c.top k 0)) → (c.avail_left ≡ true → Asks (λ k. get_or (c.left ++ right) k 0))
       → lent_block n pred (turned_case n m' right c) (transposed n out) ≡ transposed n (lent_block n pred c out)

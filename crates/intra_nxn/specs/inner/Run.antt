@@ -1,7 +1,7 @@
 -- The run of a block's neighbours that the 4x4 and 8x8 predictors work on, and the lines that the rows of a block are windows of, in lists of 32.
 use Rattle.std.specs.Prelude.{◌≡◌, Bool, cond, List, ℕ, ◌+◌, ◌-◌, ◌*◌, ◌/◌, ◌%◌, ◌≤◌, ◌<◌, eqb, ltb, get_or, length}
 use Rattle.basics.specs.Near.{Near}
-use Rattle.intra_nxn.specs.IntraNxN.{mean2, mean3}
+use Rattle.intra_nxn.specs.IntraNxN.{mean2, mean3, pred_nxn, filtered}
 
 -- t holds the neighbourhood p of a block of side n: the corner at 10, above to the right of it, left to the left of it, and the last sample of
 -- either side once more
@@ -49,3 +49,8 @@ pairs m f g h j = cond (ltb j m) (cond (eqb (j % 2) 0) (f (j / 2)) (g (j / 2))) 
 abbrev pub slid : List ℕ → ℕ → List ℕ → ℕ → ℕ → ℕ → ℕ → ℕ → ℕ
 slid even a odd b up back x y =
     cond (eqb (y % 2) 0) (get_or even (a + up * (y / 2) - back * (y / 2) + x) 0) (get_or odd (b + up * (y / 2) - back * (y / 2) + x) 0)
+
+-- ---- either prediction
+-- the sample in column x and row y of a block of side n, from the neighbourhood as it stands, which is filtered where n is 8
+abbrev pub pred_beside : ℕ → ℕ → Bool → Bool → Bool → Near → ℕ → ℕ → ℕ
+pred_beside n mode above left corner p = pred_nxn n mode above left (cond (eqb n 8) (filtered n above left corner p) p)

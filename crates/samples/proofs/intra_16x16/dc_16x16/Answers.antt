@@ -4,24 +4,24 @@ use mathlib.Core.Bool.{true, false}
 use lib.Dec.{lit≤}
 use Rattle.laws.proofs.Tests.{not_both}
 use Rattle.basics.specs.Near.{mean, dc}
-use Rattle.samples.proofs.Whole.{dc_near}
+use Rattle.samples.proofs.Drawn.{dc_near}
 use Rattle.samples.proofs.intra_16x16.dc_16x16.Goals as goal
 
-pub returns-then-avail_left : goal.returns-then-avail_left
-returns-then-avail_left c corner = let z = c.args in
-    rw (c.if-avail_top.true, c.if-avail_left.true)
-    (dc_near true true z.top.now z.left.now corner 16 (lit≤ tt) c.mean_of.ensures (λ _. c.sum_of.ensures) (λ _. c.sum_of-l.ensures))
+pub returns-in-true-true : goal.returns-in-true-true
+returns-in-true-true c p stands =
+    rw (c.in-true-true.is-0, c.in-true-true.is-1)
+    (dc_near 16 c.args.around p stands true true (lit≤ tt) c.mean_of.ensures (λ _. c.sum.ensures) (λ _. c.sum-l.ensures))
 
-pub returns-then-avail_top : goal.returns-then-avail_top
-returns-then-avail_top c corner = let z = c.args in
-    rw (c.if-avail_top.true, c.if-avail_left.false)
-    (dc_near true false z.top.now z.left.now corner 16 (lit≤ tt) c.mean_of-then-avail_top.ensures (λ _. c.sum_of-then-avail_top.ensures) (λ h. absurd (not_both h refl)))
+pub returns-in-true-false : goal.returns-in-true-false
+returns-in-true-false c p stands =
+    rw (c.in-true-false.is-0, c.in-true-false.is-1)
+    (dc_near 16 c.args.around p stands true false (lit≤ tt) c.mean_of-in-true-false.ensures (λ _. c.sum-in-true-false.ensures) (λ h. absurd (not_both h refl)))
 
-pub returns-then-avail_left-2 : goal.returns-then-avail_left-2
-returns-then-avail_left-2 c corner = let z = c.args in
-    rw (c.if-avail_top.false, c.if-avail_left-2.true)
-    (dc_near false true z.top.now z.left.now corner 16 (lit≤ tt) c.mean_of-then-avail_left-2.ensures (λ h. absurd (not_both h refl)) (λ _. c.sum_of-then-avail_left-2.ensures))
+pub returns-in-false-true : goal.returns-in-false-true
+returns-in-false-true c p stands =
+    rw (c.in-false-true.is-0, c.in-false-true.is-1)
+    (dc_near 16 c.args.around p stands false true (lit≤ tt) c.mean_of-in-false-true.ensures (λ h. absurd (not_both h refl)) (λ _. c.sum-in-false-true.ensures))
 
-pub returns : goal.returns
+pub returns-in-false-false : goal.returns-in-false-false
 unfolding dc mean
-returns c corner = rw (c.if-avail_top.false, c.if-avail_left-2.false)
+returns-in-false-false c p stands = rw (c.in-false-false.is-0, c.in-false-false.is-1)

@@ -1,23 +1,19 @@
--- `samples::intra_16x16::luma16x16_dc` meets its contract: the lengths first, then the one sample, at the corner 0. Assumes nothing.
-use mathlib.Core.Path.{refl, ap, ◌∙◌}
-use mathlib.Core.List.{[], ◌∷◌}
+-- `samples::intra_16x16::luma16x16_dc` meets its contract: the one sample, of the neighbourhood with any corner. Assumes nothing.
+use mathlib.Core.Path.{◌≡◌, refl, ap, ◌∙◌}
+use mathlib.Core.List.{List, [], ◌∷◌}
 use Prim.Native.Nat.{ℕ}
 use native.Mathlib.Omega.{arith}
-use borrow.Author.Tests.{eq-eqb, ne_eqb}
-use Rattle.laws.specs.Table.{table}
-use Rattle.laws.proofs.Ontos.{onto_none, onto_more, onto_all}
+use lib.ListN.{length, set}
+use Rattle.basics.specs.Near.{near}
+use Rattle.samples.proofs.Drawn.{in_lists}
 use Rattle.samples.proofs.intra_16x16.luma16x16_dc.Goals as goal
 
-pub returns-then-top-ne16 : goal.returns-then-top-ne16
-returns-then-top-ne16 c = record { value = rw (ne_eqb _ _ c.if-top-ne16.true); out_after = refl }
+only : (l : List ℕ) (v : ℕ) → length l ≡ 1 → set l 0 v ≡ v ∷ []
+only [] v e = absurd (omega arith)
+only (x ∷ []) v e = refl
+only (x ∷ y ∷ l) v e = absurd (omega arith)
 
-pub returns-then-left-ne16 : goal.returns-then-left-ne16
-returns-then-left-ne16 c = record { value = rw (eq-eqb _ _ c.if-top-ne16.false, ne_eqb _ _ c.if-left-ne16.true); out_after = refl }
-
-pub returns-then-out-ne1 : goal.returns-then-out-ne1
-returns-then-out-ne1 c = record { value = rw (eq-eqb _ _ c.if-top-ne16.false, eq-eqb _ _ c.if-left-ne16.false, ne_eqb _ _ c.if-out-ne1.true); out_after = refl }
-
-pub returns : goal.returns
-unfolding table
-returns c = let out = c.args.out.now in
-    let one : ℕ → ℕ = λ _. c.dc_16x16.result in record { value = rw (eq-eqb _ _ c.if-top-ne16.false, eq-eqb _ _ c.if-left-ne16.false, eq-eqb _ _ c.if-out-ne1.false); out_after = onto_more 0 one out out (omega arith) (onto_none one out) refl ∙ onto_all 1 one out c.if-out-ne1.false ∙ ap (λ w. w ∷ []) (c.dc_16x16.ensures 0) }
+pub returns-clause-out_after : goal.returns-clause-out_after
+returns-clause-out_after c = let b = c.args.beside in
+    only c.args.out.now c.dc_16x16.result c.if-out-ne1.false
+    ∙ ap (λ (v : ℕ). v ∷ []) (rw c.from.ensures at (c.dc_16x16.ensures (near b.above.now b.left.now 0) (rw c.from.ensures (in_lists 16 b 0))))

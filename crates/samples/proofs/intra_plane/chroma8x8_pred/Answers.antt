@@ -1,36 +1,16 @@
--- `samples::intra_plane::chroma8x8_pred` meets its contract: the rules in their order, then the block. Assumes nothing.
-use mathlib.Core.Path.{◌≡◌, refl, sym, ◌∙◌}
-use mathlib.Core.Bool.{true}
+-- `samples::intra_plane::chroma8x8_pred` meets its contract: past the rules there is room, and what is read is the plane's. Assumes nothing.
+use mathlib.Core.Path.{sym, ◌∙◌}
 use native.Mathlib.Omega.{arith}
-use borrow.Author.Tests.{le-leb, lt-leb}
-use lib.ListN.{length}
-use Rattle.samples.specs.IntraPlane.{room_round}
 use Rattle.samples.proofs.IntraPlane.{room_yes}
 use Rattle.samples.proofs.intra_plane.chroma8x8_pred.Goals as goal
-use Rattle.samples.proofs.intra_plane.chroma8x8_pred.Goals.{Else-not-room_round}
 
--- past the second test there is room
-room : (c : Else-not-room_round) → let a = c.args in room_round 8 (length a.rec.now) a.base a.stride ≡ true
-room c = sym c.room_round.ensures ∙ c.if-not-room_round.false
+pub round-requires : goal.round-requires
+round-requires c = let r = room_yes _ _ _ _ (sym c.room_round.ensures ∙ c.if-not-room_round.false) in (r.corner, omega (arith, r.column))
 
-pub returns-then-pred-lt64 : goal.returns-then-pred-lt64
-returns-then-pred-lt64 c = let a = c.args in record { answer = rw (lt-leb 64 (length a.pred.now) (omega arith)); lent = refl }
+pub predict-requires : goal.predict-requires
+predict-requires c = (c.round.ensures.lies 8 (room_yes _ _ _ _ (sym c.room_round.ensures ∙ c.if-not-room_round.false)), omega arith)
 
-pub returns-then-not-room_round : goal.returns-then-not-room_round
-returns-then-not-room_round c = let a = c.args in
-    record { answer = rw (le-leb 64 (length a.pred.now) (omega arith), sym c.room_round.ensures ∙ c.if-not-room_round.true); lent = refl }
-
-pub returns-then-mode-lt2 : goal.returns-then-mode-lt2
-returns-then-mode-lt2 c = let a = c.args in
-    record { answer = rw (le-leb 64 (length a.pred.now) (omega arith), room (goal.at.returns-then-mode-lt2 c).Else-not-room_round, lt-leb 2 a.mode (omega arith)); lent = refl }
-
-pub returns-then-mode-gt3 : goal.returns-then-mode-gt3
-returns-then-mode-gt3 c = let a = c.args in
-    record { answer = rw (le-leb 64 (length a.pred.now) (omega arith), room (goal.at.returns-then-mode-gt3 c).Else-not-room_round, le-leb 2 a.mode (omega arith), lt-leb a.mode 3 (omega arith)); lent = refl }
-
-pub chroma_at-requires : goal.chroma_at-requires
-chroma_at-requires c = (omega arith, omega arith, omega arith, room_yes _ _ _ _ (room (goal.at.chroma_at-requires c).Else-not-room_round))
-
-pub returns : goal.returns
-returns c = let a = c.args in
-    record { answer = rw (le-leb 64 (length a.pred.now) (omega arith), room (goal.at.returns c).Else-not-room_round, le-leb 2 a.mode (omega arith), le-leb a.mode 3 (omega arith)); lent = c.chroma_at.ensures }
+pub returns-clause-lent : goal.returns-clause-lent
+returns-clause-lent c =
+    rw (c.round.ensures.sides.0, c.round.ensures.sides.1, c.in_ok-mode.ensures) at
+    (c.predict.ensures _ (c.round.ensures.stands 8 (room_yes _ _ _ _ (sym c.room_round.ensures ∙ c.if-not-room_round.false))) c.round.ensures.corner)

@@ -1,32 +1,16 @@
--- `samples::intra_plane::i16x16_luma_pred` meets its contract: the rules in their order, then the block. Assumes nothing.
-use mathlib.Core.Path.{◌≡◌, refl, sym, ◌∙◌}
-use mathlib.Core.Bool.{true}
+-- `samples::intra_plane::i16x16_luma_pred` meets its contract: past the rules there is room, and what is read is the plane's. Assumes nothing.
+use mathlib.Core.Path.{sym, ◌∙◌}
 use native.Mathlib.Omega.{arith}
-use borrow.Author.Tests.{le-leb, lt-leb}
-use lib.ListN.{length}
-use Rattle.samples.specs.IntraPlane.{room_round}
 use Rattle.samples.proofs.IntraPlane.{room_yes}
 use Rattle.samples.proofs.intra_plane.i16x16_luma_pred.Goals as goal
-use Rattle.samples.proofs.intra_plane.i16x16_luma_pred.Goals.{Else-not-room_round}
 
--- past the second test there is room
-room : (c : Else-not-room_round) → let a = c.args in room_round 16 (length a.rec.now) a.base a.stride ≡ true
-room c = sym c.room_round.ensures ∙ c.if-not-room_round.false
+pub round-requires : goal.round-requires
+round-requires c = let r = room_yes _ _ _ _ (sym c.room_round.ensures ∙ c.if-not-room_round.false) in (r.corner, omega (arith, r.column))
 
-pub returns-then-pred-lt256 : goal.returns-then-pred-lt256
-returns-then-pred-lt256 c = let a = c.args in record { answer = rw (lt-leb 256 (length a.pred.now) (omega arith)); lent = refl }
+pub predict-requires : goal.predict-requires
+predict-requires c = (c.round.ensures.lies 16 (room_yes _ _ _ _ (sym c.room_round.ensures ∙ c.if-not-room_round.false)), omega arith)
 
-pub returns-then-not-room_round : goal.returns-then-not-room_round
-returns-then-not-room_round c = let a = c.args in
-    record { answer = rw (le-leb 256 (length a.pred.now) (omega arith), sym c.room_round.ensures ∙ c.if-not-room_round.true); lent = refl }
-
-pub returns-then-mode-gt3 : goal.returns-then-mode-gt3
-returns-then-mode-gt3 c = let a = c.args in
-    record { answer = rw (le-leb 256 (length a.pred.now) (omega arith), room (goal.at.returns-then-mode-gt3 c).Else-not-room_round, lt-leb a.mode 3 (omega arith)); lent = refl }
-
-pub luma_at-requires : goal.luma_at-requires
-luma_at-requires c = (omega arith, omega arith, room_yes _ _ _ _ (room (goal.at.luma_at-requires c).Else-not-room_round))
-
-pub returns : goal.returns
-returns c = let a = c.args in
-    record { answer = rw (le-leb 256 (length a.pred.now) (omega arith), room (goal.at.returns c).Else-not-room_round, le-leb a.mode 3 (omega arith)); lent = c.luma_at.ensures }
+pub returns-clause-lent : goal.returns-clause-lent
+returns-clause-lent c =
+    rw (c.round.ensures.sides.0, c.round.ensures.sides.1, c.in_ok-mode.ensures) at
+    (c.predict.ensures _ (c.round.ensures.stands 16 (room_yes _ _ _ _ (sym c.room_round.ensures ∙ c.if-not-room_round.false))) c.round.ensures.corner)

@@ -1,12 +1,14 @@
 -- `samples::plane_mode::ramp_over` meets its contract. The columns left of x, and of column x the samples above y, are put; the sums are the
 -- heights of the next samples, and none leaves 32 bits. Assumes nothing.
-use mathlib.Core.Path.{◌≡◌, refl, sym, ap, ap₂, ◌∙◌}
-use Prim.Native.Nat.{ℕ, ◌+◌, ◌*◌, ◌/◌, ◌%◌, ◌<◌}
+use mathlib.Core.Path.{◌≡◌, sym, ap, ap₂, ◌∙◌}
+use Prim.Native.Nat.{◌+◌, ◌*◌, ◌/◌, ◌%◌, ◌<◌}
 use native.Mathlib.Nat.{zero-mul, suc-mul}
 use native.Mathlib.Numerals.{add-one}
 use native.Mathlib.Omega.{arith}
 use lib.Arith.{digits_div, digits_mod}
-use lib.ListN.{set, length-set}
+use mir.Syntax.{w32}
+use mir.Val.{SFits}
+use Rattle.std.proofs.Common.{rules}
 use Rattle.laws.proofs.Columns.{columns, columns_none, columns_more, columns_all}
 use Rattle.laws.proofs.Digits.{row_in}
 use Rattle.laws.proofs.Ints.{ints}
@@ -29,23 +31,25 @@ overflow_add-lift c = search ints depth 20
 
 pub loop-x-init : goal.loop-x-init
 loop-x-init c =
-    let w = (small_back c.args.o c.requires.0 c.requires.1 c.requires.2 c.requires.3) in
-    (omega arith, refl, first_rise _ _ _ _ w c.past.result c.past.ensures, first_lift _ _ _ _ w c.past-2.result c.past-2.ensures, rw (zero-mul c.args.n) (columns_none c.args.n _ _))
+    let w = small_back c.args.o c.requires.0 c.requires.1 c.requires.2 c.requires.3 in
+    (first_rise _ _ _ _ w c.past.result c.past.ensures, first_lift _ _ _ _ w c.past-2.result c.past-2.ensures, rw (zero-mul c.args.n) (columns_none c.args.n _ _))
 
 pub overflow_add-at : goal.overflow_add-at
-overflow_add-at c = (at_first _ _ _ _ (small_back c.args.o c.requires.0 c.requires.1 c.requires.2 c.requires.3) c.loop-x.x _ _ (omega arith) c.loop-x.invariant.2 c.loop-x.invariant.3).0
+overflow_add-at c =
+    (at_first _ _ _ _ (small_back c.args.o c.requires.0 c.requires.1 c.requires.2 c.requires.3) c.loop-x.x _ _ (omega arith) c.loop-x.invariant.0 c.loop-x.invariant.1).0
 
 pub loop-y-init : goal.loop-y-init
 loop-y-init c =
-    let e = (at_first _ _ _ _ (small_back c.args.o c.requires.0 c.requires.1 c.requires.2 c.requires.3) c.loop-x.x _ _ (omega arith) c.loop-x.invariant.2 c.loop-x.invariant.3).1 in
-    (omega arith, refl, omega (arith, zero-mul c.args.n), e, λ l h e. e ∙ ap (columns _ _ l) (omega arith))
+    let e = (at_first _ _ _ _ (small_back c.args.o c.requires.0 c.requires.1 c.requires.2 c.requires.3) c.loop-x.x _ _ (omega arith) c.loop-x.invariant.0 c.loop-x.invariant.1).1 in
+    (e, λ l h e. e ∙ ap (columns _ _ l) (omega arith))
 
 -- the place lies in the block
-pub bounds-out-k : goal.bounds-out-k
-bounds-out-k c = omega (arith, row_in c.loop-y.y c.args.n (omega arith), c.requires)
+pub bounds-out-y : goal.bounds-out-y
+bounds-out-y c = omega (arith, row_in c.loop-y.y c.args.n (omega arith), c.requires)
 
 pub overflow_add-at-in-loop-y : goal.overflow_add-at-in-loop-y
-overflow_add-at-in-loop-y c = (at_next _ _ _ _ (small_back c.args.o c.requires.0 c.requires.1 c.requires.2 c.requires.3) c.loop-x.x c.loop-y.y _ (omega arith) (omega arith) c.loop-y.invariant.3).0
+overflow_add-at-in-loop-y c =
+    (at_next _ _ _ _ (small_back c.args.o c.requires.0 c.requires.1 c.requires.2 c.requires.3) c.loop-x.x c.loop-y.y _ (omega arith) (omega arith) c.loop-y.invariant.0).0
 
 pub loop-y-preserved : goal.loop-y-preserved
 loop-y-preserved c =
@@ -53,29 +57,30 @@ loop-y-preserved c =
     let x = c.loop-x.x in
     let y = c.loop-y.y in
     let hx : x < n = omega arith in
-    let e = (at_next _ _ _ _ (small_back c.args.o c.requires.0 c.requires.1 c.requires.2 c.requires.3) x y _ (omega arith) (omega arith) c.loop-y.invariant.3).1 in (
-      omega arith,
-      simp length-set (omega arith),
-      rw (add-one y) (omega (arith, suc-mul y n)),
+    let e = (at_next _ _ _ _ (small_back c.args.o c.requires.0 c.requires.1 c.requires.2 c.requires.3) x y _ (omega arith) (omega arith) c.loop-y.invariant.0).1 in (
       e,
-      λ l h q. ap (λ (k : ℕ). set c.loop-y.out k c.sample_of.result) c.loop-y.invariant.2 ∙ columns_more n _ l x y c.loop-y.out hx (omega arith) h (c.loop-y.invariant.4 l h q)
-          (c.sample_of.ensures ∙ clipped_is _ _ _ _ x y _ c.loop-y.invariant.3 ∙ sym (ap₂ (ramp _ _ _ _) (digits_mod y hx) (digits_div y hx))),
+      λ l h q. columns_more n _ l x y c.loop-y.out hx (omega arith) h (c.loop-y.invariant.1 l h q)
+          (c.sample_of.ensures ∙ clipped_is _ _ _ _ x y _ c.loop-y.invariant.0 ∙ sym (ap₂ (ramp _ _ _ _) (digits_mod y hx) (digits_div y hx))),
     )
 
 pub overflow_add-rise-in-loop-x : goal.overflow_add-rise-in-loop-x
-overflow_add-rise-in-loop-x c = (rise_next _ _ _ _ (small_back c.args.o c.requires.0 c.requires.1 c.requires.2 c.requires.3) c.loop-x.x _ (omega arith) c.loop-x.invariant.2).0
+overflow_add-rise-in-loop-x c = (rise_next _ _ _ _ (small_back c.args.o c.requires.0 c.requires.1 c.requires.2 c.requires.3) c.loop-x.x _ (omega arith) c.loop-x.invariant.0).0
 
 pub loop-x-preserved : goal.loop-x-preserved
 loop-x-preserved c =
     let n = c.args.n in
     let x = c.loop-x.x in
     let m : x * n + c.loop-y.y ≡ (x + 1) * n = rw (add-one x) (omega (arith, suc-mul x n)) in
-    let e = (rise_next _ _ _ _ (small_back c.args.o c.requires.0 c.requires.1 c.requires.2 c.requires.3) x _ (omega arith) c.loop-x.invariant.2).1 in
-    (omega arith, omega arith, e, c.loop-x.invariant.3, c.loop-y.invariant.4 c.args.out.now (omega (arith, c.requires)) c.loop-x.invariant.4 ∙ ap (columns n _ _) m)
+    let e = (rise_next _ _ _ _ (small_back c.args.o c.requires.0 c.requires.1 c.requires.2 c.requires.3) x _ (omega arith) c.loop-x.invariant.0).1 in
+    (e, c.loop-x.invariant.1, c.loop-y.invariant.1 c.args.out.now (omega (arith, c.requires)) c.loop-x.invariant.2 ∙ ap (columns n _ _) m)
 
 pub returns : goal.returns
 returns c =
     let n = c.args.n in
+    let s = c.args.s in
+    let fa : SFits w32 s.a = search rules in
+    let fb : SFits w32 s.b = search rules in
+    let fc : SFits w32 s.c = search rules in
     let e : c.loop-x.x ≡ n = omega arith in
-    (rw e at c.loop-x.invariant.4) ∙ columns_all n _ _ (omega (arith, c.requires))
-    ∙ onto_same (n * n) _ _ _ (λ i h. ramp_back c.args.o (i % n) (i / n) c.ranges.a c.ranges.b c.ranges.c)
+    (rw e at c.loop-x.invariant.2) ∙ columns_all n _ _ (omega (arith, c.requires))
+    ∙ onto_same (n * n) _ _ _ (λ i h. ramp_back c.args.o (i % n) (i / n) fa fb fc)

@@ -7,6 +7,7 @@ use lib.IntN.{ℤ}
 use lib.ListN.{length}
 use Rattle.laws.proofs.Columns.{columns}
 use Rattle.samples.specs.PlaneMode.{ramp}
+use Rattle.samples.proofs.PlaneMode.{rd}
 use Rattle.samples.proofs.Ramp.{rise, lift, height}
 use Rattle.samples.proofs.plane_mode.ramp_over.Given as goal
 
@@ -16,10 +17,10 @@ put n o a b c i = ramp o a b c (i % n) (i / n)
 
 -- `l.initial.out` is the block as the column finds it
 abbrev pub invariant-loop-y : goal.invariant-loop-y
-invariant-loop-y l = (l.y ≤ l.n) × (length l.out ≡ length l.initial.out) × (l.k ≡ l.y * l.n + l.x) × (l.at ≡ height l.o l.a l.b l.c l.x l.y)
-    × ((old : List ℕ) → l.n * l.n ≤ length old → l.initial.out ≡ columns l.n (put l.n l.o l.a l.b l.c) old (l.x * l.n)
-    → l.out ≡ columns l.n (put l.n l.o l.a l.b l.c) old (l.x * l.n + l.y))
+invariant-loop-y l = (l.at ≡ height l.o (rd l.s.a) (rd l.s.b) (rd l.s.c) l.x l.y)
+    × ((old : List ℕ) → l.n * l.n ≤ length old → l.initial.out ≡ columns l.n (put l.n l.o (rd l.s.a) (rd l.s.b) (rd l.s.c)) old (l.x * l.n)
+    → l.out ≡ columns l.n (put l.n l.o (rd l.s.a) (rd l.s.b) (rd l.s.c)) old (l.x * l.n + l.y))
 
 abbrev pub invariant-loop-x : goal.invariant-loop-x
-invariant-loop-x l = (l.x ≤ l.n) × (length l.out ≡ length l.initial.out) × (l.rise ≡ rise l.o l.a l.b l.c l.x)
-    × (l.lift ≡ lift l.o l.a l.b l.c) × (l.out ≡ columns l.n (put l.n l.o l.a l.b l.c) l.initial.out (l.x * l.n))
+invariant-loop-x l = (l.rise ≡ rise l.o (rd l.s.a) (rd l.s.b) (rd l.s.c) l.x) × (l.lift ≡ lift l.o (rd l.s.a) (rd l.s.b) (rd l.s.c))
+    × (l.out ≡ columns l.n (put l.n l.o (rd l.s.a) (rd l.s.b) (rd l.s.c)) l.initial.out (l.x * l.n))

@@ -1,0 +1,12 @@
+-- `intra_nxn::run::Neighbours::right_line` meets its contract. After j turns the first j places of either part are the line's. Assumes nothing.
+use mathlib.Core.Path.{◌≡◌}
+use Prim.Native.Nat.{ℕ, ◌+◌, ◌*◌, ◌<◌}
+use lib.ListN.{get_or}
+use Rattle.intra_nxn.specs.inner.Run.{mean_round, mean_in}
+use Rattle.intra_nxn.proofs.run.Neighbours.right_line.Given as goal
+
+abbrev pub invariant-loop-j : goal.invariant-loop-j
+invariant-loop-j g l = (k : ℕ) → k < l.j → get_or l.x-items k 0 ≡ mean_round l.self.run (l.first + 2 * k)
+
+abbrev pub invariant-loop-j-2 : goal.invariant-loop-j-2
+invariant-loop-j-2 g l = (k : ℕ) → k < l.j → get_or l.x-items k 0 ≡ mean_in l.odd l.self.run (9 + k)
