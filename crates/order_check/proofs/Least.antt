@@ -3,9 +3,8 @@ use mathlib.Core.Path.{◌≡◌, refl, sym, ap, ap₂, subst, ◌∙◌}
 use mathlib.Core.Bool.{Bool, true, false, cond, ◌&&◌, ◌||◌}
 use mathlib.Core.Logic.{◌⊎◌, inl, inr}
 use mathlib.Core.List.{List}
-use Prim.Native.Nat.{ℕ, ◌+◌, ◌*◌, ◌-◌, ◌<◌, ◌≤◌, min}
+use Prim.Native.Nat.{ℕ, ◌+◌, ◌-◌, ◌<◌, ◌≤◌, min}
 use native.Mathlib.Decide.{ℕ_discrete, dec_lt}
-use native.Mathlib.Nat.{mul-le-mul_right, suc-mul}
 use native.Mathlib.Omega.{arith}
 use lib.Dec.{eqb, leb}
 use lib.ListN.{get_or}
@@ -13,10 +12,9 @@ use borrow.Author.Tests.{lt-ltb, leb-true, le-leb}
 use Rattle.laws.proofs.Tests.{not_both, and_both, and_of, and_same, or_either, or_left, or_right}
 use Rattle.maps.specs.Neighbours.{Side, beside, in_picture, available}
 use Rattle.maps.specs.Neighbours.Side.{A, B, C, D}
-use Rattle.maps.specs.Size.{total, address}
+use Rattle.maps.specs.Size.{address}
 use Rattle.maps.proofs.Beside.{back_of, available_at}
-use Rattle.maps.proofs.Sizes.{total_most}
-use Rattle.order_check.specs.inner.Places.{Placed, Least, early_on, early, if_early, EarlyBetween, EarlyIn, Under}
+use Rattle.order_check.specs.inner.Places.{Least, early_on, early, if_early, EarlyBetween, EarlyIn}
 
 -- ---- the least of some
 least_none : {P : ℕ → Type 0} → ((i : ℕ) → ¬ P i) → Least P 65535
@@ -169,13 +167,6 @@ module _ (w : ℕ) (slices places : List ℕ) where
           go : Dec (z ≡ y) → EarlyIn w y slices places i ⊎ EarlyBetween w slices places y 0 w i
           go (yes m) = inr (subst (λ v. EarlyBetween w slices places v 0 w i) m e)
           go (no m) = inl (z, omega arith, e)
-
--- ---- a row in the map and in the table
-pub row_under : (w h y : ℕ) (slices places : List ℕ) → Placed w h slices places → 0 < y → y < h → Under w slices places y
-row_under w h y slices places p some l =
-    let most = total_most w h p.map.size in
-    let ends : y * w + w ≤ total w h = omega (arith, mul-le-mul_right w l, suc-mul y w) in
-    record { some_y = some; most = omega arith; in_map = omega (arith, p.map.long); in_table = omega (arith, p.room) }
 
 -- between the ends of a row below the first, every neighbour lies in the picture
 pub inner_inside : (w x y : ℕ) → 0 < x → x + 1 < w → 0 < y → (k : Side) → in_picture w x y k ≡ true

@@ -2,5 +2,4 @@
 pub mod Told
 mod FirstOut
 mod Least
-mod Listed
 mod Named

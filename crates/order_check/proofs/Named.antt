@@ -16,7 +16,7 @@ use Rattle.order.specs.FullOrder.{InPlace}
 use Rattle.maps.specs.Neighbours.{Side, beside, available, Adjoins}
 use Rattle.maps.proofs.Waiting.{sides_is, sides_yes}
 use Rattle.order_check.specs.Check.{named_before, beside_before, all_before, entry_ok}
-use Rattle.order_check.specs.inner.Places.{NotedTo, Noted}
+use Rattle.order_check.specs.inner.Places.{NotedTo}
 
 module _ (order : List ℕ) where
   -- ---- the test
@@ -155,21 +155,6 @@ module _ (order : List ℕ) where
             go : Dec (i < j) → named_before order j b ≡ ltb (get_or (set places a i) b 0) j
             go (yes q) = let z : j ≡ i + 1 = omega arith in rw z (last b hb)
             go (no q) = before j b (omega arith) hb
-
-    -- one that was
-    pub noted_stop : (k : ℕ) → length places ≡ k → ¬ (get_or places a 0 ≡ 65535) → Noted order i k places
-    noted_stop k long taken = record {
-      long = long;
-      to = n;
-      stop = λ m. subst (λ b. named_before order i b ≡ true) is (n.named i a (omega arith) h ∙ go (n.only a h));
-    }
-      where
-        go : (get_or places a 0 < i) ⊎ (get_or places a 0 ≡ 65535) → ltb (get_or places a 0) i ≡ true
-        go (inl e) = lt-ltb (get_or places a 0) i e
-        go (inr e) = absurd (taken e)
-
-  pub noted_all : (i k : ℕ) (places : List ℕ) → length places ≡ k → NotedTo order i places → ¬ (i < length order) → Noted order i k places
-  noted_all i k places long n l = record { long = long; to = n; stop = λ m. absurd (l m) }
 
   -- ---- what noted places say of the first k entries
   module _ (k : ℕ) (places : List ℕ) (n : NotedTo order k places) where

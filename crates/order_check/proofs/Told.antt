@@ -3,12 +3,12 @@ use mathlib.Core.Path.{◌≡◌, refl, sym, ap, subst, ◌∙◌}
 use mathlib.Core.Bool.{Bool, true, false, cond}
 use mathlib.Core.List.{List, [], ◌∷◌}
 use Prim.Native.Nat.{ℕ, suc, ◌+◌, ◌/◌, ◌%◌, ◌<◌, ◌≤◌}
-use native.Mathlib.Decide.{dec_lt}
+use native.Mathlib.Decide.{dec_lt, ℕ_discrete}
 use native.Mathlib.Nat.{add-zero}
 use native.Mathlib.Omega.{arith}
 use lib.Dec.{eqb, ltb}
 use lib.ListN.{get_or, length, replicate}
-use borrow.Author.Tests.{eqb-true, eq-eqb, ltb-true, lt-ltb}
+use borrow.Author.Tests.{eqb-true, eq-eqb, ne_eqb, ltb-true, lt-ltb}
 use Rattle.laws.specs.Table.{all_below}
 use Rattle.laws.proofs.Answers.{passes_by}
 use Rattle.laws.proofs.Tests.{not_both, and_of, all_at, all_of_lem}
@@ -114,7 +114,7 @@ module _ (w h : ℕ) (slices : List ℕ) where
     out l p = not_both (entry_yes order w slices (out_of_place w slices order) p) (leads.stop l)
 
     -- the list's end is told exactly where all are in place
-    pub end_yes : out_of_place w slices order ≡ length order → verdict_of w slices order ≡ 1
+    end_yes : out_of_place w slices order ≡ length order → verdict_of w slices order ≡ 1
     end_yes e = verdict_yes (all_of_lem (length order) ok (λ i l. leads.all i (omega (arith, e))))
 
     end_is : verdict_of w slices order ≡ 1 → out_of_place w slices order ≡ length order
@@ -124,8 +124,16 @@ module _ (w h : ℕ) (slices : List ℕ) where
         go (yes l) = absurd (not_both (all_at (length order) ok (verdict_is e) (out_of_place w slices order) l) (leads.stop l))
         go (no l) = omega (arith, leads.most)
 
-    pub end_no : ¬ (out_of_place w slices order ≡ length order) → verdict_of w slices order ≡ 0
+    end_no : ¬ (out_of_place w slices order ≡ length order) → verdict_of w slices order ≡ 0
     end_no n = verdict_no (λ v. n (end_is v))
+
+    -- the place that is told is the list's end exactly where it is yes
+    pub end_told : (place : ℕ) → place ≡ out_of_place w slices order → verdict_of w slices order ≡ cond (eqb place (length order)) 1 0
+    end_told place e = go (ℕ_discrete place (length order))
+      where
+        go : Dec (place ≡ length order) → verdict_of w slices order ≡ cond (eqb place (length order)) 1 0
+        go (yes q) = rw (eq-eqb place (length order) q) (end_yes (sym e ∙ q))
+        go (no n) = rw (ne_eqb place (length order) n) (end_no (λ q. n (e ∙ q)))
 
   -- ---- orders that pass
   module _ (m : SliceMap w h slices) where

@@ -1,11 +1,15 @@
 -- The largest of some numbers. Assumes nothing.
-use mathlib.Core.Path.{◌≡◌, refl}
+use mathlib.Core.Path.{◌≡◌, refl, ◌∙◌}
+use mathlib.Core.List.{List}
 use Prim.Native.Nat.{ℕ, zero, suc, ◌+◌, ◌<◌, ◌≤◌, max, zero-le}
-use native.Mathlib.Decide.{dec_lt}
+use native.Mathlib.Decide.{dec_lt, ℕ_discrete}
 use native.Mathlib.Nat.{not-suc-le-zero}
 use native.Mathlib.Numerals.{add-one}
 use native.Mathlib.Omega.{arith}
+use lib.ListN.{length, get_or, set, length-set}
+use lib.Seq.{get_or-set_same, get_or-set_other}
 use Rattle.turn_count.specs.Due.{latest}
+use Rattle.turn_count.specs.inner.Late.{RunOn}
 
 -- none is larger, and it is one of them
 pub latest_upper : (n : ℕ) (f : ℕ → ℕ) (i : ℕ) → i < n → f i ≤ latest n f
@@ -38,3 +42,37 @@ latest_none f = refl
 pub latest_more : (n : ℕ) (f : ℕ → ℕ) (m d : ℕ) → m ≡ latest n f → d ≡ f n → max m d ≡ latest (n + 1) f
 unfolding latest
 latest_more n f m d e g = rw (add-one n, e, g)
+
+-- a row whose first k numbers are the largest so far, and whose others stand
+pub record Running (old : List ℕ) (k last : ℕ) (now : List ℕ) : Type 0 where
+  pub largest : last ≡ latest k (λ j. get_or old j 0)
+  pub long : length now ≡ length old
+  pub passed : (i : ℕ) → i < k → get_or now i 0 ≡ latest (i + 1) (λ j. get_or old j 0)
+  pub rest : (i : ℕ) → k ≤ i → get_or now i 0 ≡ get_or old i 0
+
+pub running_none : (old : List ℕ) → Running old 0 0 old
+running_none old = record {
+  largest = latest_none (λ j. get_or old j 0);
+  long = refl;
+  passed = λ i h. absurd (not-suc-le-zero h);
+  rest = λ i h. refl;
+}
+
+pub running_more : (old now : List ℕ) (k last n : ℕ) → k < length now → n ≡ max last (get_or now k 0) → Running old k last now
+    → Running old (k + 1) n (set now k n)
+running_more old now k last n h e r = record {
+  largest = more;
+  long = length-set now k n ∙ r.long;
+  passed = λ i l. at i l (ℕ_discrete i k);
+  rest = λ i l. get_or-set_other now k i n 0 (omega arith) ∙ r.rest i (omega arith);
+}
+  where
+    more : n ≡ latest (k + 1) (λ j. get_or old j 0)
+    more = e ∙ latest_more k (λ j. get_or old j 0) last (get_or now k 0) r.largest (r.rest k (omega arith))
+
+    at : (i : ℕ) → i < k + 1 → Dec (i ≡ k) → get_or (set now k n) i 0 ≡ latest (i + 1) (λ j. get_or old j 0)
+    at i l (yes q) = rw q (get_or-set_same now k n 0 h ∙ more)
+    at i l (no q) = get_or-set_other now k i n 0 q ∙ r.passed i (omega arith)
+
+pub running_all : (old now : List ℕ) (k last : ℕ) → k ≡ length old → Running old k last now → RunOn old now
+running_all old now k last e r = record { long = r.long; is = λ i l. r.passed i (omega arith) }

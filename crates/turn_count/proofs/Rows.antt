@@ -5,39 +5,28 @@ use mathlib.Core.List.{List}
 use Prim.Native.Nat.{ℕ, ◌+◌, ◌*◌, ◌-◌, ◌≤◌, ◌<◌, max}
 use native.Mathlib.Decide.{ℕ_discrete, dec_lt}
 use native.Mathlib.Omega.{arith}
-use lib.Dec.{eqb, ltb}
+use lib.Dec.{eqb}
 use lib.ListN.{get_or, length, set, replicate, length-set, length-replicate, get_or-replicate}
 use lib.Seq.{get_or-set_same, get_or-set_other}
-use borrow.Author.Tests.{ltb-true, lt-ltb}
+use Rattle.std.proofs.Common.{◌++◌, take, drop, length-take-le, length-drop, length-append, get_or-take, get_or-drop}
+use Rattle.std.proofs.Math.ListN.{get_or-append}
+use borrow.Author.Tests.{lt-ltb}
 use Rattle.laws.proofs.Digits.{pred_mul}
-use Rattle.laws.proofs.Tests.{and_both, and_of, cond_same}
+use Rattle.laws.proofs.Tests.{and_of, cond_same}
 use Rattle.maps.specs.Neighbours.{Side, beside_x, beside_y, beside, in_picture, available}
-use Rattle.maps.specs.Neighbours.Side.{A, B, C, D}
+use Rattle.maps.specs.Neighbours.Side.{B, C, D}
 use Rattle.maps.specs.Size.{address}
-use Rattle.maps.proofs.Beside.{available_inside, available_at}
+use Rattle.maps.proofs.Beside.{available_at}
 use Rattle.turn_count.specs.Due.{latest}
 use Rattle.turn_count.specs.inner.Late.{late, more, late_on, late_above, LateRow, AboveRow, Edges, RunOn}
-use Rattle.turn_count.proofs.Lateness.{more_few, late_latest, late_small, late_flat}
+use Rattle.turn_count.proofs.Lateness.{late_latest, late_small, late_flat}
 use Rattle.turn_count.proofs.Latest.{latest_none, latest_more, latest_same}
-
--- ---- where a neighbour stands
-beside_more : (x : ℕ) (k : Side) → beside_x x k ≡ x + more k - 1
-beside_more x A = omega arith
-beside_more x B = omega arith
-beside_more x C = omega arith
-beside_more x D = omega arith
-
-some_column : (w x y : ℕ) (k : Side) → in_picture w x y k ≡ true → 1 ≤ x + more k
-some_column w x y A t = let l = ltb-true 0 x t in omega arith
-some_column w x y B t = omega arith
-some_column w x y C t = omega arith
-some_column w x y D t = let l = ltb-true 0 x (and_both (ltb 0 y) (ltb 0 x) t).1 in omega arith
 
 module _ (w : ℕ) (slices : List ℕ) (y : ℕ) where
   -- ---- one macroblock
   module _ (x : ℕ) (row : List ℕ) (hx : x < w) (r : LateRow w slices (y - 1) row) where
     -- a neighbour above, by its place in the row of numbers
-    on_row : (k : Side) (b : Bool) (n : ℕ) → beside_y y k ≡ y - 1 → b ≡ available w slices x y k → n ≡ get_or row (beside_x x k) 0 + more k
+    pub on_row : (k : Side) (b : Bool) (n : ℕ) → beside_y y k ≡ y - 1 → b ≡ available w slices x y k → n ≡ get_or row (beside_x x k) 0 + more k
         → cond b n 0 ≡ late_on w slices x y k
     on_row k b n v e f =
         ap (λ t. cond t n 0) e
@@ -45,20 +34,11 @@ module _ (w : ℕ) (slices : List ℕ) (y : ℕ) where
         (λ t. f ∙ ap (λ m. m + more k) (r.is (beside_x x k) (available_at w x y slices k hx t).column ∙ ap (λ j. late w slices (beside_x x k) j) (sym v)))
         (λ _. refl)
 
-    -- it stands in column x + more - 1 of the row, and what is there is small
-    pub on_column : (k : Side) (b : Bool) → beside_y y k ≡ y - 1 → b ≡ available w slices x y k
-        → cond b (get_or row (x + more k - 1) 0 + more k) 0 ≡ late_on w slices x y k
-    on_column k b v e = on_row k b (get_or row (x + more k - 1) 0 + more k) v e (ap (λ i. get_or row i 0 + more k) (sym (beside_more x k)))
-
-    pub row_room : (k : Side) → w ≤ 120 → y < 68 → available w slices x y k ≡ true
-        → (1 ≤ x + more k) × (x + more k ≤ 120) × (get_or row (x + more k - 1) 0 + more k ≤ 255)
+    -- it lies in the row, and what is there is small
+    pub row_room : (k : Side) → w ≤ 120 → y < 68 → available w slices x y k ≡ true → (beside_x x k < w) × (get_or row (beside_x x k) 0 ≤ 134)
     row_room k l m t =
         let b = (available_at w x y slices k hx t).column in
-        let e = beside_more x k in (
-          some_column w x y k (available_inside w x y slices k t),
-          omega (arith, b, e),
-          omega (arith, r.is (beside_x x k) b, late_small w slices (beside_x x k) (y - 1) b, ap (λ i. get_or row i 0) e, more_few k),
-        )
+        (b, omega (arith, r.is (beside_x x k) b, late_small w slices (beside_x x k) (y - 1) b))
 
     -- the three of a macroblock that has them all, by how far their addresses are back
     same_slice : (k : Side) (a : ℕ) → in_picture w x y k ≡ true → a ≡ beside w x y k
@@ -67,19 +47,23 @@ module _ (w : ℕ) (slices : List ℕ) (y : ℕ) where
         ap (λ j. eqb (get_or slices j 0) (get_or slices (address w x y) 0)) e
         ∙ sym (ap (λ b. b && eqb (get_or slices (beside w x y k) 0) (get_or slices (address w x y) 0)) t)
 
-    pub above_three : 0 < x → x + 1 < w → 0 < y
-        → let slice : ℕ → ℕ = λ a. get_or slices a 0 in
-        let here : ℕ = y * w + x in
-        max (cond (eqb (slice (here - w)) (slice here)) (get_or row x 0 + 1) 0)
-        (max (cond (eqb (slice (here - w + 1)) (slice here)) (get_or row (x + 1) 0 + 2) 0)
-        (cond (eqb (slice (here - w - 1)) (slice here)) (get_or row (x - 1) 0) 0))
+    pub above_three : 0 < x → x + 1 < w → 0 < y → (m n : ℕ) → m ≡ w → n ≡ w
+        → let up : ℕ → ℕ = λ i. get_or (take m (drop (y * w - w) slices)) i 0 in
+        let here : ℕ = get_or (take n (drop (y * w) slices)) x 0 in
+        max (cond (eqb (up x) here) (get_or row x 0 + 1) 0)
+        (max (cond (eqb (up (x + 1)) here) (get_or row (x + 1) 0 + 2) 0)
+        (cond (eqb (up (x - 1)) here) (get_or row (x - 1) 0) 0))
         ≡ late_above w slices x y
-    above_three p q v =
+    above_three p q v m n em en =
         let e = pred_mul y w v in
         let l = lt-ltb 0 y v in
-        ap₂ max (on_row B _ _ refl (same_slice B (y * w + x - w) l (omega arith)) refl)
-        (ap₂ max (on_row C _ _ refl (same_slice C (y * w + x - w + 1) (and_of l (lt-ltb (x + 1) w q)) (omega arith)) refl)
-        (on_row D _ _ refl (same_slice D (y * w + x - w - 1) (and_of l (lt-ltb 0 x p)) (omega arith)) (omega arith)))
+        let up : (i : ℕ) → i < w → get_or (take m (drop (y * w - w) slices)) i 0 ≡ get_or slices (y * w - w + i) 0 =
+        λ i h. get_or-take m (drop (y * w - w) slices) i 0 (omega arith) ∙ get_or-drop (y * w - w) slices i 0 in
+        let here : get_or (take n (drop (y * w) slices)) x 0 ≡ get_or slices (y * w + x) 0 =
+        get_or-take n (drop (y * w) slices) x 0 (omega arith) ∙ get_or-drop (y * w) slices x 0 in
+        ap₂ max (on_row B _ _ refl (ap₂ eqb (up x hx) here ∙ same_slice B (y * w - w + x) l (omega arith)) refl)
+        (ap₂ max (on_row C _ _ refl (ap₂ eqb (up (x + 1) q) here ∙ same_slice C (y * w - w + (x + 1)) (and_of l (lt-ltb (x + 1) w q)) (omega arith)) refl)
+        (on_row D _ _ refl (ap₂ eqb (up (x - 1) (omega arith)) here ∙ same_slice D (y * w - w + (x - 1)) (and_of l (lt-ltb 0 x p)) (omega arith)) (omega arith)))
 
   -- ---- the first column and the last, then those between
   pub edges_put : (a : List ℕ) (f l : ℕ) → length a ≡ 120 → 0 < w → w ≤ 120 → f ≡ late_above w slices 0 y → l ≡ late_above w slices (w - 1) y
@@ -104,16 +88,12 @@ module _ (w : ℕ) (slices : List ℕ) (y : ℕ) where
       go (no q) = get_or-set_other (set a 0 f) (w - 1) 0 l 0 q ∙ get_or-set_same a 0 f 0 (omega arith) ∙ e
 
   pub record Columns (x : ℕ) (above : List ℕ) : Type 0 where
-    pub some : 1 ≤ x
-    pub most : x ≤ 120
     pub long : length above ≡ 120
     pub is : (i : ℕ) → i < x → get_or above i 0 ≡ late_above w slices i y
     pub last : get_or above (w - 1) 0 ≡ late_above w slices (w - 1) y
 
   pub columns_none : (above : List ℕ) → Edges w slices y above → Columns 1 above
   columns_none above e = record {
-    some = omega arith;
-    most = omega arith;
     long = e.long;
     is = λ i h. let q : i ≡ 0 = omega arith in rw q e.first;
     last = e.last;
@@ -121,8 +101,6 @@ module _ (w : ℕ) (slices : List ℕ) (y : ℕ) where
 
   pub columns_more : (x n : ℕ) (above : List ℕ) → x + 1 < w → w ≤ 120 → n ≡ late_above w slices x y → Columns x above → Columns (x + 1) (set above x n)
   columns_more x n above h l e b = record {
-    some = omega arith;
-    most = omega arith;
     long = length-set above x n ∙ b.long;
     is = λ i k. at i k (ℕ_discrete i x);
     last = get_or-set_other above x (w - 1) n 0 (omega arith) ∙ b.last;
@@ -140,15 +118,31 @@ module _ (w : ℕ) (slices : List ℕ) (y : ℕ) where
       at i k (no l) = let q : w - 1 ≡ i = omega arith in subst (λ j. get_or above j 0 ≡ late_above w slices j y) q b.last
 
   -- ---- the whole row
-  pub row_run : (above : List ℕ) (r : ℕ) (row : List ℕ) → 0 < w → AboveRow w slices y above → RunOn w above r row
-      → (r ≡ late w slices (w - 1) y) × LateRow w slices y row
-  row_run above r row p a u = (last, record { long = u.long; is = λ i l. u.is i l ∙ upto i l })
+  -- the numbers of which those of the row are run on: its w columns are put, and what stands behind them does not count
+  pub row_run : (above front : List ℕ) (r : ℕ) → 0 < w → w ≤ 120 → AboveRow w slices y above → RunOn (take w above) front
+      → r ≡ latest (length (take w above)) (λ j. get_or (take w above) j 0)
+      → (r ≡ late w slices (w - 1) y) × LateRow w slices y (front ++ drop w above)
+  row_run above front r p m a u e = (
+    last,
+    record {
+      long = length-append front (drop w above) ∙ omega (arith, u.long, long, length-drop w above, a.long);
+      is = λ i l. get_or-append front (drop w above) 0 i (omega (arith, u.long, long)) ∙ u.is i (omega (arith, long)) ∙ upto i l;
+    },
+  )
     where
-      upto : (i : ℕ) → i < w → latest (i + 1) (λ j. get_or above j 0) ≡ late w slices i y
-      upto i l = latest_same (i + 1) (λ j. get_or above j 0) (λ j. late_above w slices j y) (λ j h. a.is j (omega arith)) ∙ sym (late_latest w slices i y)
+      long : length (take w above) ≡ w
+      long = length-take-le w above (omega (arith, a.long))
+
+      upto : (i : ℕ) → i < w → latest (i + 1) (λ j. get_or (take w above) j 0) ≡ late w slices i y
+      upto i l =
+          latest_same (i + 1) (λ j. get_or (take w above) j 0) (λ j. late_above w slices j y)
+          (λ j h. get_or-take w above j 0 (omega arith) ∙ a.is j (omega arith))
+          ∙ sym (late_latest w slices i y)
 
       last : r ≡ late w slices (w - 1) y
-      last = let e : w ≡ w - 1 + 1 = omega arith in u.last ∙ ap (λ n. latest n (λ j. get_or above j 0)) e ∙ upto (w - 1) (omega arith)
+      last =
+          let q : length (take w above) ≡ w - 1 + 1 = omega (arith, long) in
+          e ∙ ap (λ n. latest n (λ j. get_or (take w above) j 0)) q ∙ upto (w - 1) (omega arith)
 
   pub row_flat : (n : ℕ) → 0 < w → w ≤ 120 → late_above w slices 0 y ≡ n → n ≡ late w slices (w - 1) (y - 1) + 2
       → (n ≡ late w slices (w - 1) y) × LateRow w slices y (replicate 120 n)

@@ -1,42 +1,35 @@
 // The number of turns: a row is done with its last macroblock, and the picture with the latest row.
-ghost use Rattle.std.specs.Prelude.{◌≡◌, ◌-◌, length};
-ghost use Rattle.laws.specs.Answer.{written};
-ghost use Rattle.maps.specs.Neighbours.{SliceMap};
+ghost use Rattle.std.specs.Prelude.{◌≡◌, ◌-◌, length, IfOk};
+ghost use Rattle.refusals.specs.Refusal.{number_of};
 ghost use Rattle.turn_count.specs.Count.{turn_count, turn_count_answer};
 ghost use Rattle.turn_count.specs.Due.{latest};
 ghost use Rattle.turn_count.specs.inner.Late.{late};
 
-use super::late::{late_row, later};
-use basics::mean::wide;
-use maps::size::size_ok;
+use super::late::late_row;
+use maps::slice_map::SliceMap;
+use refusals::Refusal;
 
 // Counts the turns that a picture takes from a cleared done map until all is done, each turn accepting its whole list.
-pub fn count_turns(w: u32, h: u32, slices: &[u16], turns: &mut u32) -> u32
-    ensures value { result ≡ turn_count_answer w h (length slices.now) }
-    ensures turns_after { turns.new ≡ written result turns.old (turn_count w h slices.now) }
+#[tactic(auto, unfolding(crate::specs::Count::turn_count_answer))]
+pub fn count_turns(w: u32, h: u32, slices: &[u16]) -> Result<u32, Refusal>
+    ensures value { number_of result ≡ turn_count_answer w h (length slices.now) }
+    ensures turns { IfOk result (λ turns. turns ≡ turn_count w h slices.now) }
 {
-    if !size_ok(w, h) {
-        return 1;
-    }
-    if slices.len() != (h as usize) * (w as usize) {
-        return 2;
-    }
-    *turns = w + wide(latest_row(w, h, slices));
-    0
+    let map = SliceMap::new(w, h, slices)?;
+    Ok(w + u32::from(latest_row(map)))
 }
 
 // How late the last macroblock of the latest row is. The first row is not late at all.
-fn latest_row(w: u32, h: u32, slices: &[u16]) -> u8
-    requires { SliceMap w h slices.now }
-    ensures { result ≡ latest h (λ y. late w slices.now (w - 1) y) }
+fn latest_row(map: SliceMap) -> u8
+    ensures { result ≡ latest map.entry.h (λ y. late map.entry.w map.entry.slices.now (map.entry.w - 1) y) }
 {
-    let mut row = [0u8; 120];
-    let mut last = 0;
-    let mut y: u32 = 1;
-    while y < h {
-        let end = late_row(w, h, y, slices, &mut row);
-        last = later(last, end);
-        y += 1;
+    // room for the widest picture: there is no heap
+    let mut row = [0; 120];
+    let mut last: u8 = 0;
+    // a row by its number, with which its part of the map is found
+    for y in 1..map.h {
+        let end = late_row(map, y, &mut row);
+        last = last.max(end);
     }
     last
 }

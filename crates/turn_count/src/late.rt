@@ -1,103 +1,97 @@
 // How late the macroblocks of a row are, by how late those of the row above are. If a macroblock waited only for the one before it in its row, column x would
 // be due in turn x + 1; how much later it is never falls along a row, and is what one row of numbers holds.
-ghost use Rattle.std.specs.Prelude.{◌≡◌, true, cond, ◌+◌, ◌-◌, ◌≤◌, ◌<◌, max, eqb, length, get_or};
-ghost use Rattle.maps.specs.Neighbours.{SliceMap};
+ghost use Rattle.std.specs.Prelude.{◌≡◌, cond, ◌-◌, ◌<◌, length, get_or};
 ghost use Rattle.maps.specs.Size.{Stands};
-ghost use Rattle.turn_count.specs.inner.Late.{late, late_above, LateRow, AboveRow, Under, Edges, RunOn};
+ghost use Rattle.turn_count.specs.Due.{latest};
+ghost use Rattle.turn_count.specs.inner.Late.{late, late_above, LateRow, AboveRow, Edges, RunOn};
 
-use maps::neighbours::marks_of;
+use maps::slice_map::SliceMap;
+
+// How late the macroblocks above row y are.
+#[derive(Clone, Copy)]
+struct RowAbove<'a> {
+    map: SliceMap<'a>,
+    y: u32,
+    late: &'a [u8; 120],
+    ghost below_first: { 0 < y },
+    ghost inside: { y < map.h },
+    ghost is_late: { LateRow map.w map.slices.now (y - 1) late.now },
+}
+
+impl RowAbove<'_> {
+    // How late those above make the macroblock in column x.
+    fn late_at(self, x: u32) -> u8
+        requires { Stands self.map.w self.map.h x self.y }
+        ensures { result ≡ late_above self.entry.map.w self.entry.map.slices.now x self.entry.y }
+    {
+        let marks = self.map.marks_at(x, self.y);
+        let x = x as usize;
+        let b = if marks.b { self.late[x] + 1 } else { 0 };
+        let c = if marks.c { self.late[x + 1] + 2 } else { 0 };
+        let d = if marks.d { self.late[x - 1] } else { 0 };
+        b.max(c.max(d))
+    }
+
+    // The same of all columns between the first and the last, which have all three neighbours above. They are looked at side by side, and by their numbers,
+    // since each reads seven entries of three lists.
+    fn late_between(self, above: &mut [u8; 120])
+        requires { Edges self.map.w self.map.slices.now self.y above.old }
+        ensures { AboveRow self.entry.map.w self.entry.map.slices.now self.entry.y above.new }
+    {
+        let w = self.map.w as usize;
+        let first = (self.y as usize) * w;
+        let up = &self.map.slices[first - w..first];
+        let here = &self.map.slices[first..first + w];
+        let late = self.late;
+        for x in 1..w - 1 {
+            let b = if_so(up[x] == here[x], late[x] + 1);
+            let c = if_so(up[x + 1] == here[x], late[x + 1] + 2);
+            let d = if_so(up[x - 1] == here[x], late[x - 1]);
+            above[x] = b.max(c.max(d));
+        }
+    }
+}
 
 // Brings the numbers from the row above to row y, and answers how late its last macroblock is. None of a row is more than two turns later than the last one
 // above: where the first one is that already, all of them are.
-pub(crate) fn late_row(w: u32, h: u32, y: u32, slices: &[u16], row: &mut [u8; 120]) -> u8
-    requires { SliceMap w h slices.now × (0 < y) × (y < h) × LateRow w slices.now (y - 1) row.old }
-    ensures { (result ≡ late w slices.now (w - 1) y) × LateRow w slices.now y row.new }
+pub(crate) fn late_row(map: SliceMap, y: u32, row: &mut [u8; 120]) -> u8
+    requires { (0 < y) × (y < map.h) × LateRow map.w map.slices.now (y - 1) row.old }
+    ensures last { result ≡ late map.entry.w map.entry.slices.now (map.entry.w - 1) y }
+    ensures row { LateRow map.entry.w map.entry.slices.now y row.new }
 {
-    let most = row[(w as usize) - 1] + 2;
-    let first = late_at(w, h, 0, y, slices, row);
+    let w = map.w as usize;
+    let most = row[w - 1] + 2;
+    let under = RowAbove { map, y, late: row };
+    let first = under.late_at(0);
     if first == most {
         *row = [most; 120];
         return most;
     }
-    let mut above = [0u8; 120];
+    let mut above = [0; 120];
     above[0] = first;
-    above[(w as usize) - 1] = late_at(w, h, w - 1, y, slices, row);
-    late_between(w as usize, y as usize, slices, row, &mut above);
-    run_on(w as usize, &above, row)
-}
-
-// How late those above make the macroblock in column x.
-fn late_at(w: u32, h: u32, x: u32, y: u32, slices: &[u16], row: &[u8; 120]) -> u8
-    requires { SliceMap w h slices.now × Stands w h x y × LateRow w slices.now (y - 1) row.now }
-    ensures { result ≡ late_above w slices.now x y }
-{
-    let marks = marks_of(slices, w, h, x, y);
-    let b = if_marked(marks.b, row, x as usize, 1);
-    let c = if_marked(marks.c, row, x as usize, 2);
-    let d = if_marked(marks.d, row, x as usize, 0);
-    later(b, later(c, d))
-}
-
-// How late a neighbour above makes column x: so many turns more than it is itself, if it is available. It stands in column x + more - 1.
-fn if_marked(mark: bool, row: &[u8; 120], x: usize, more: u8) -> u8
-    requires { mark ≡ true → (1 ≤ x + more) × (x + more ≤ 120) × (get_or row.now (x + more - 1) 0 + more ≤ 255) }
-    ensures { result ≡ cond mark (get_or row.now (x + more - 1) 0 + more) 0 }
-{
-    if !mark {
-        return 0;
-    }
-    row[x + (more as usize) - 1] + more
-}
-
-// How late those above make the macroblocks between the first column and the last.
-fn late_between(w: usize, y: usize, slices: &[u16], row: &[u8; 120], above: &mut [u8; 120])
-    requires { Under w slices.now y row.now × Edges w slices.now y above.old }
-    ensures { AboveRow w slices.now y above.new }
-{
-    let mut x = 1;
-    while x + 1 < w {
-        above[x] = late_under_three(w, x, y, slices, row);
-        x += 1;
-    }
-}
-
-// The same of one macroblock that has all three neighbours above.
-fn late_under_three(w: usize, x: usize, y: usize, slices: &[u16], row: &[u8; 120]) -> u8
-    requires { Under w slices.now y row.now × (0 < x) × (x + 1 < w) }
-    ensures { result ≡ late_above w slices.now x y }
-{
-    let here = y * w + x;
-    let up = here - w;
-    let b = if_same(slices[up], slices[here], row[x] + 1);
-    let c = if_same(slices[up + 1], slices[here], row[x + 1] + 2);
-    let d = if_same(slices[up - 1], slices[here], row[x - 1]);
-    later(b, later(c, d))
-}
-
-// The number if both are the same slice, and 0 if not.
-fn if_same(p: u16, q: u16, n: u8) -> u8
-    ensures { result ≡ cond (eqb p q) n 0 }
-{
-    if p == q { n } else { 0 }
-}
-
-// A row from the left: each macroblock is at least as late as the one before it.
-fn run_on(w: usize, above: &[u8; 120], row: &mut [u8; 120]) -> u8
-    requires { (w ≤ 120) × (length row.old ≡ 120) }
-    ensures { RunOn w above.now result row.new }
-{
-    let mut last = 0;
-    let mut x = 0;
-    while x < w {
-        last = later(last, above[x]);
-        row[x] = last;
-        x += 1;
-    }
+    above[w - 1] = under.late_at(map.w - 1);
+    under.late_between(&mut above);
+    let last = run_on(&mut above[..w]);
+    *row = above;
     last
 }
 
-pub(crate) fn later(p: u8, q: u8) -> u8
-    ensures { result ≡ max p q }
+// A number where something is so, and 0 where it is not.
+fn if_so(so: bool, n: u8) -> u8
+    ensures { result ≡ cond so n 0 }
 {
-    if p < q { q } else { p }
+    if so { n } else { 0 }
+}
+
+// A row from the left: each macroblock is at least as late as the one before it. Answers how late the last one is.
+fn run_on(row: &mut [u8]) -> u8
+    ensures row { RunOn row.old row.new }
+    ensures last { result ≡ latest (length row.old) (λ i. get_or row.old i 0) }
+{
+    let mut last: u8 = 0;
+    for late in row {
+        last = last.max(*late);
+        *late = last;
+    }
+    last
 }

@@ -1,15 +1,18 @@
 // One turn: each row's leftmost undone macroblock, if all its available neighbours are done.
-ghost use Rattle.std.specs.Prelude.{◌≡◌, ◌≤◌, ◌<◌, length};
+ghost use Rattle.std.specs.Prelude.{◌≡◌, ◌≤◌, ◌<◌, length, IfOk};
 ghost use Rattle.laws.specs.Answer.{written};
-ghost use Rattle.turn_list.specs.Turn.{turn, over, turn_answer};
-ghost use Rattle.turn_list.specs.inner.Rows.{RowsAgree, may_start_at, RowPut};
+ghost use Rattle.refusals.specs.Refusal.{number_of};
+ghost use Rattle.turn_list.specs.Turn.{may_start, turn, over, turn_answer};
+ghost use Rattle.turn_list.specs.inner.Rows.{RowsAgree};
 
 use super::rows::rows_agree;
 use maps::done::ready;
-use maps::neighbours::marks_of;
-use maps::size::{Spot, size_ok};
+use maps::size::Spot;
+use maps::slice_map::SliceMap;
+use refusals::Refusal;
 
 // Lists the macroblocks that may start now from the top row down, and tells how many there are. The rest of the list keeps what it held.
+#[tactic(auto, unfolding(crate::specs::Turn::turn_answer))]
 pub fn turn(
     w: u32,
     h: u32,
@@ -17,71 +20,42 @@ pub fn turn(
     slices: &[u16],
     rows: &[u32],
     list: &mut [u32],
-    how_many: &mut u32,
-) -> u32
-    ensures value { result ≡ turn_answer w h slices.now done.now rows.now (length list.old) }
-    ensures list_after { list.new ≡ written result list.old (over (turn w h slices.now done.now) list.old) }
-    ensures how_many_after { how_many.new ≡ written result how_many.old (length (turn w h slices.now done.now)) }
+) -> Result<u32, Refusal>
+    ensures value { number_of result ≡ turn_answer w h slices.now done.now rows.now (length list.old) }
+    ensures list_after { list.new ≡ written (number_of result) list.old (over (turn w h slices.now done.now) list.old) }
+    ensures how_many { IfOk result (λ many. many ≡ length (turn w h slices.now done.now)) }
 {
-    if !size_ok(w, h) {
-        return 1;
+    let map = SliceMap::new(w, h, slices)?;
+    if done.len() != slices.len() {
+        return Err(Refusal::Room);
     }
-    let total = (h as usize) * (w as usize);
-    if done.len() != total {
-        return 2;
+    if rows.len() != (h as usize) || list.len() != rows.len() || !rows_agree(w, done, rows) {
+        return Err(Refusal::Rows);
     }
-    if slices.len() != total {
-        return 2;
-    }
-    if rows.len() != (h as usize) {
-        return 9;
-    }
-    if list.len() != (h as usize) {
-        return 9;
-    }
-    if !rows_agree(w, h, done, rows) {
-        return 9;
-    }
-    let many = list_turn(w, h, done, slices, rows, list);
-    *how_many = many as u32;
-    0
+    Ok(list_turn(map, done, rows, list))
 }
 
-// Lists a turn row by row, and answers how many macroblocks it has.
-fn list_turn(w: u32, h: u32, done: &[u8], slices: &[u16], rows: &[u32], list: &mut [u32]) -> usize
-    requires { RowsAgree w h slices.now done.now rows.now × (length list.old ≡ h) }
-    ensures { (result ≡ length (turn w h slices.now done.now)) × (result ≤ h)
-        × (list.new ≡ over (turn w h slices.now done.now) list.old) }
+// Lists a turn row by row, and tells how many macroblocks it has.
+fn list_turn(map: SliceMap, done: &[u8], rows: &[u32], list: &mut [u32]) -> u32
+    requires { RowsAgree map.w map.h done.now rows.now × (length list.old ≡ map.h) }
+    ensures many { result ≡ length (turn map.entry.w map.entry.h map.entry.slices.now done.now) }
+    ensures listed { list.new ≡ over (turn map.entry.w map.entry.h map.entry.slices.now done.now) list.old }
 {
-    let mut k = 0;
-    let mut y: u32 = 0;
-    while y < h {
-        let x = rows[y as usize];
-        k = list_row(Spot { w, h, x, y }, done, slices, list, k);
-        y += 1;
+    let mut many = 0;
+    for (y, x) in rows.iter().enumerate() {
+        if may_start(map, done, *x, y as u32) {
+            list[many as usize] = (y as u32) * map.w + *x;
+            many += 1;
+        }
     }
-    k
+    many
 }
 
-// Puts the address of a row's macroblock at place k of the list, if it may start, and answers the next free place.
-fn list_row(spot: Spot, done: &[u8], slices: &[u16], list: &mut [u32], k: usize) -> usize
-    requires { (spot.w ≤ 120) × (spot.y ≤ 68) × (spot.x ≤ 120) × (k < length list.old) }
-    ensures { RowPut spot slices.now done.now k list.old result list.new }
+// Whether macroblock (x, y) lies in its row, and all its available neighbours are done.
+fn may_start(map: SliceMap, done: &[u8], x: u32, y: u32) -> bool
+    requires { y < map.h }
+    ensures { result ≡ may_start map.entry.w map.entry.slices.now done.now x y }
 {
-    if !may_start(spot, done, slices) {
-        return k;
-    }
-    list[k] = spot.y * spot.w + spot.x;
-    k + 1
-}
-
-// Whether a macroblock lies in its row, and all its available neighbours are done.
-fn may_start(spot: Spot, done: &[u8], slices: &[u16]) -> bool
-    ensures { result ≡ may_start_at spot slices.now done.now }
-{
-    if spot.x >= spot.w {
-        return false;
-    }
-    let marks = marks_of(slices, spot.w, spot.h, spot.x, spot.y);
-    ready(done, spot.w, spot.x, spot.y, marks)
+    let SliceMap { w, h, .. } = map;
+    x < w && ready(done, Spot { w, h, x, y }, map.marks_at(x, y))
 }

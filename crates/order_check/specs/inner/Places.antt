@@ -1,5 +1,5 @@
 -- What private functions tell of the places at which macroblocks come.
-use Rattle.std.specs.Prelude.{◌≡◌, Bool, true, false, cond, ◌&&◌, ◌||◌, ◌⊎◌, List, ℕ, ◌+◌, ◌*◌, ◌<◌, ◌≤◌, ltb, leb, get_or, length, replicate}
+use Rattle.std.specs.Prelude.{◌≡◌, Bool, true, false, cond, ◌&&◌, ◌||◌, ◌⊎◌, List, ℕ, ◌<◌, ◌≤◌, ltb, leb, get_or, length, replicate}
 use Rattle.maps.specs.Neighbours.{Side, beside, available, SliceMap}
 use Rattle.maps.specs.Neighbours.Side.{A, B, C, D}
 use Rattle.maps.specs.Size.{total, address}
@@ -36,11 +36,6 @@ pub record Noted (order : List ℕ) (k n : ℕ) (places : List ℕ) : Type 0 whe
   pub to : NotedTo order k places
   pub stop : k < length order → named_before order k (get_or order k 0) ≡ true
 
--- a slice map, and a table with a place for each macroblock
-pub record Placed (w h : ℕ) (slices places : List ℕ) : Type 0 where
-  pub map : SliceMap w h slices
-  pub room : total w h ≤ length places
-
 -- the least of some places, and 65535 where there is none
 pub record Least (P : ℕ → Type 0) (r : ℕ) : Type 0 where
   pub least : (i : ℕ) → P i → r ≤ i
@@ -65,10 +60,3 @@ EarlyBetween w slices places y from to i =
 
 abbrev pub EarlyIn : (w h : ℕ) (slices places : List ℕ) (i : ℕ) → Type 0
 EarlyIn w h slices places i = (y : ℕ) × (y < h) × EarlyBetween w slices places y 0 w i
-
--- row y and the row above lie in a slice map and in a table of places
-pub record Under (w : ℕ) (slices places : List ℕ) (y : ℕ) : Type 0 where
-  pub some_y : 0 < y
-  pub most : y * w + w ≤ 8160
-  pub in_map : y * w + w ≤ length slices
-  pub in_table : y * w + w ≤ length places

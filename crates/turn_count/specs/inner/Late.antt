@@ -1,5 +1,5 @@
 -- What private functions tell of how late macroblocks are. Where nothing is waited for but the row, column x is due in turn x + 1: late is what comes on top.
-use Rattle.std.specs.Prelude.{◌≡◌, cond, List, ℕ, ◌+◌, ◌*◌, ◌-◌, ◌≤◌, ◌<◌, max, get_or, length}
+use Rattle.std.specs.Prelude.{◌≡◌, cond, List, ℕ, ◌+◌, ◌-◌, ◌<◌, max, get_or, length}
 use Rattle.maps.specs.Neighbours.{Side, beside_x, beside_y, available}
 use Rattle.maps.specs.Neighbours.Side.{A, B, C, D}
 use Rattle.turn_count.specs.Due.{due, latest}
@@ -35,16 +35,7 @@ pub record Edges (w : ℕ) (slices : List ℕ) (y : ℕ) (above : List ℕ) : Ty
   pub first : get_or above 0 0 ≡ late_above w slices 0 y
   pub last : get_or above (w - 1) 0 ≡ late_above w slices (w - 1) y
 
--- row y and the row above lie in a slice map, and how late the row above is stands in `row`
-pub record Under (w : ℕ) (slices : List ℕ) (y : ℕ) (row : List ℕ) : Type 0 where
-  pub most_w : w ≤ 120
-  pub some_y : 0 < y
-  pub most_y : y < 68
-  pub inside : y * w + w ≤ length slices
-  pub above : LateRow w slices (y - 1) row
-
--- each place holds the largest number so far, and r is the last of them
-pub record RunOn (w : ℕ) (above : List ℕ) (r : ℕ) (row : List ℕ) : Type 0 where
-  pub long : length row ≡ 120
-  pub is : (i : ℕ) → i < w → get_or row i 0 ≡ latest (i + 1) (λ j. get_or above j 0)
-  pub last : r ≡ latest w (λ j. get_or above j 0)
+-- each place of a row holds the largest number that stood there or before
+pub record RunOn (old new : List ℕ) : Type 0 where
+  pub long : length new ≡ length old
+  pub is : (i : ℕ) → i < length old → get_or new i 0 ≡ latest (i + 1) (λ j. get_or old j 0)

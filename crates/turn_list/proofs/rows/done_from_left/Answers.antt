@@ -1,13 +1,9 @@
--- `turn_list::rows::done_from_left` meets its contract: all before x is done, and the loop ends at the first that is not. Assumes nothing.
-use native.Mathlib.Omega.{arith}
-use Rattle.laws.proofs.Digits.{mul_most}
+-- `turn_list::rows::done_from_left` meets its contract: a row is a part of the map. Assumes nothing.
+use Rattle.std.proofs.Common.{◌*◌, take, drop, arith, ap, ◌∙◌}
+use Rattle.std.specs.List.{prefix_len}
+use Rattle.turn_list.specs.inner.Rows.{is_one}
+use Rattle.turn_list.proofs.Leading.{row_leads}
 use Rattle.turn_list.proofs.rows.done_from_left.Goals as goal
 
-pub overflow_mul-first : goal.overflow_mul-first
-overflow_mul-first c = omega (arith, mul_most c.args.y c.args.w 68 120 (omega arith) (omega arith))
-
-pub loop-x-init : goal.loop-x-init
-loop-x-init c = let r = c.done_groups-x.ensures in record { most = r.0; all = r.1 }
-
-pub overflow_add-first : goal.overflow_add-first
-overflow_add-first c = let a = c.args in omega (arith, mul_most a.y a.w 68 120 (omega arith) (omega arith))
+pub returns : goal.returns
+returns c = let a = c.args in c.leading_done.ensures.count ∙ ap (λ n. prefix_len is_one (take n (drop (a.y * a.w) a.done.now))) (omega arith) ∙ row_leads a.w a.done.now a.y c.requires.2

@@ -1,42 +1,22 @@
 -- `turn_list::turn::list_turn` meets its contract: after y rows the list begins with the turn of a picture y rows high. Assumes nothing.
-use mathlib.Core.Path.{◌≡◌, subst}
-use Prim.Native.Nat.{◌<◌}
-use native.Mathlib.Omega.{arith}
-use Rattle.turn_list.proofs.Leading.{gapless_is}
-use Rattle.turn_list.proofs.Listing.{Listing, listing_none, listing_row}
+use Rattle.std.proofs.Common.{◌+◌, arith, sym, ◌∙◌}
+use mathlib.Core.Path.{subst₂}
+use Rattle.turn_list.proofs.Listing.{Listing, listing_none, listing_skip, listing_put}
 use Rattle.turn_list.proofs.turn.list_turn.Goals as goal
+use Rattle.turn_list.proofs.turn.list_turn.Goals.{then-may_start, else-may_start}
 
 pub loop-y-init : goal.loop-y-init
-loop-y-init c = let a = c.args in (omega arith, listing_none a.w a.slices.now a.done.now a.list.now)
-
-pub bounds-rows-y : goal.bounds-rows-y
-bounds-rows-y c = omega (arith, c.requires.0.fitting.rows_long)
-
-pub list_row-k-requires : goal.list_row-k-requires
-list_row-k-requires c = let l = c.loop-y in
-    let g = c.requires.0 in
-    let low : l.y < c.args.h = omega arith in (
-      g.fitting.size.most_w,
-      omega (arith, g.fitting.size.most_h),
-      omega (arith, g.agree l.y low, (gapless_is c.args.w c.args.done.now l.y).most, g.fitting.size.most_w),
-      omega (arith, l.invariant.1.most, l.invariant.1.long, c.requires.1),
-    )
+loop-y-init c = let a = c.args in listing_none a.map.w a.map.slices.now a.done.now a.list.now
 
 pub loop-y-preserved : goal.loop-y-preserved
-loop-y-preserved c = let l = c.loop-y in
-    let a = c.args in
-    let low : l.y < a.h = omega arith in (
-      omega arith,
-      listing_row a.w a.slices.now a.done.now a.list.now a.h l.y l.k a.rows.now l.list c.list_row-k.result _
-          c.requires.0 low (omega (arith, l.invariant.1.most, c.requires.1)) c.list_row-k.ensures l.invariant.1,
-    )
-
-pub shape_of-list : goal.shape_of-list
-shape_of-list c = c.loop-y.invariant.1.long
-
-pub returns : goal.returns
-returns c = let l = c.loop-y in
-    let a = c.args in
-    let e : l.y ≡ a.h = omega arith in
-    let g = subst (λ n. Listing a.w a.slices.now a.done.now a.list.now n l.k l.list) e l.invariant.1 in
-    (g.many, g.most, g.is)
+loop-y-preserved c = let a = c.args in
+    let l = c.loop-y in
+    let count = c.requires.0.each l.y (omega (arith, c.requires.0.high)) in
+    let so_far = Listing a.map.w a.map.slices.now a.done.now a.list.now (l.y + 1) in
+    elim c.if-may_start.branch [
+      | then-may_start t ↦ subst₂ so_far (sym t.many-is) (sym t.list-is)
+          (listing_put a.map.w a.map.slices.now a.done.now a.list.now _ l.y l.many l.list count (sym c.may_start.ensures ∙ t.if-may_start.true)
+          (omega (arith, l.invariant.most, c.requires.0.high, c.requires.1)) l.invariant)
+      | else-may_start t ↦ subst₂ so_far (sym t.many-is) (sym t.list-is)
+          (listing_skip a.map.w a.map.slices.now a.done.now a.list.now _ l.y l.many l.list count (sym c.may_start.ensures ∙ t.if-may_start.false) l.invariant)
+    ]
