@@ -1,12 +1,7 @@
 -- What holds of each kind beside its cut: 0, 1, and any other, which counts as 2. Assumes nothing.
-use Prim.Native.Nat.{ℕ, zero, suc, ◌<◌, ◌≤◌}
+use Prim.Native.Nat.{ℕ, zero, suc, ◌≤◌}
 use native.Mathlib.Omega.{arith}
 use Rattle.macroblock.specs.inner.Blocks.{first_for}
-
-pub block_kind : (P : ℕ → Type 0) → P 0 → P 1 → (kind : ℕ) → kind < 2 → P kind
-block_kind P p q zero h = p
-block_kind P p q (suc zero) h = q
-block_kind P p q (suc (suc j)) h = absurd (omega arith)
 
 pub first_few : (kind : ℕ) → first_for kind ≤ 16
 first_few zero = omega arith

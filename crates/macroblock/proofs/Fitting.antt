@@ -1,9 +1,11 @@
 -- A block that lies in its plane: its rows, the row above it and the column before it do. Assumes nothing.
 use mathlib.Core.Path.{◌≡◌}
-use mathlib.Core.Bool.{Bool, true, false, cond}
+use mathlib.Core.Bool.{Bool, false, cond}
 use Prim.Native.Nat.{ℕ, suc, ◌+◌, ◌*◌, ◌-◌, ◌<◌, ◌≤◌, min}
 use native.Mathlib.Nat.{mul-le-mul_right, suc-mul, mul-pos, le-mul_of_pos_right}
 use native.Mathlib.Omega.{arith}
+use mathlib.Core.List.{List}
+use lib.ListN.{get_or}
 use Rattle.macroblock.specs.declared.place.Place.{Place}
 use Rattle.macroblock.specs.inner.Blocks.{BlockIn, Low}
 
@@ -38,13 +40,10 @@ in_above {q} {n} {p} F h =
 pub place_low : {n : ℕ} {p : Place} → BlockIn 16 p n → n < 18446744073709551616 → Low p
 place_low F h = let g = in_row 15 F (omega arith) in record { rows = omega (arith, g.line); columns = omega (arith, F.wide, F.short) }
 
--- where the samples above stand that lie over the block, those to the right of these, and those that repeat the last
-pub reach_over : (l z q t : ℕ) (right : Bool) → t < q → l + z + t ≡ l + (z + min t (cond right (2 * q - 1) (q - 1)))
-reach_over l z q t true h = omega arith
-reach_over l z q t false h = omega arith
+-- sample t above the block, in a plane
+abbrev pub above_at : ℕ → Place → List ℕ → Bool → ℕ → ℕ
+above_at q p plane right t = get_or plane ((p.row * q - 1) * p.stride + (p.column * q + min t (cond right (2 * q - 1) (q - 1)))) 0
 
-pub reach_right : (l z q t : ℕ) (right : Bool) → right ≡ true → t < 2 * q → l + z + t ≡ l + (z + min t (cond right (2 * q - 1) (q - 1)))
-reach_right l z q t right e h = rw e (let f : l + z + t ≡ l + (z + min t (2 * q - 1)) = omega arith in f)
-
-pub reach_last : (l z q t : ℕ) (right : Bool) → right ≡ false → 0 < q → q ≤ t → l + z + q - 1 ≡ l + (z + min t (cond right (2 * q - 1) (q - 1)))
-reach_last l z q t right e some h = rw e (let f : l + z + q - 1 ≡ l + (z + min t (q - 1)) = omega arith in f)
+-- where those stand that repeat the last one over the block
+pub reach_last : (l z q t : ℕ) (right : Bool) → right ≡ false → 0 < q → q ≤ t → l + z + (q - 1) ≡ l + (z + min t (cond right (2 * q - 1) (q - 1)))
+reach_last l z q t right e some h = rw e (let f : l + z + (q - 1) ≡ l + (z + min t (q - 1)) = omega arith in f)

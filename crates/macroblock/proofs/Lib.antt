@@ -12,10 +12,10 @@ mod ByKind
 mod Drawn
 mod Early
 mod Fitting
+mod Halves
 mod Known
 mod Marked
 mod Pieces
-mod Predicted
 mod Quarters
 mod Rows
 mod Sums

@@ -1,32 +1,29 @@
 -- Residuals where a macroblock's numbers stood: all of them in 4x4 blocks, and the luma's in 8x8 blocks. Assumes nothing.
 use mathlib.Core.Path.{◌≡◌, refl, sym, ap, ◌∙◌, subst}
 use mathlib.Core.Logic.{◌≢◌}
-use mathlib.Core.Bool.{Bool, true, cond, ◌&&◌}
+use mathlib.Core.Bool.{◌&&◌}
 use mathlib.Core.List.{List, ◌++◌}
-use Prim.Native.Nat.{ℕ, zero, suc, ◌+◌, ◌*◌, ◌-◌, ◌/◌, ◌%◌, ◌<◌, ◌≤◌}
+use Prim.Native.Nat.{ℕ, zero, suc, ◌+◌, ◌*◌, ◌-◌, ◌/◌, ◌<◌, ◌≤◌}
 use native.Mathlib.Decide.{dec_lt}
 use native.Mathlib.Omega.{arith}
-use borrow.Rule.Slice.PartMut.{put_mid, mid_of, post_of}
+use borrow.Rule.Slice.PartMut.{put_mid, mid_of}
 use lib.IntN.{ℤ, pos}
-use lib.ListN.{length, get_or, take, drop, length-append, length-take, length-drop, get_or-append}
-use lib.Seq.{get_or-take, get_or-append-add}
-use Rattle.laws.specs.Answer.{written}
+use lib.ListN.{length, get_or, take, drop, length-append, length-take, length-drop}
+use lib.Seq.{get_or-take}
 use Rattle.laws.specs.Range.{at}
 use Rattle.laws.specs.Table.{all_below, all_blocks, blockwise}
-use Rattle.laws.proofs.Answers.{put}
 use Rattle.laws.proofs.Blockwise.{blockwise_at}
 use Rattle.laws.proofs.Stretches.{part_at}
 use Rattle.laws.proofs.Tables.{length_table, get_d_table, table_same}
 use Rattle.laws.proofs.Tests.{all_same, all_split}
-use Rattle.numbers.specs.Numbers.{all_in_range}
 use Rattle.residual.specs.Inverse.{inverse4x4, in_range4x4}
 use Rattle.residual.specs.Quads.{coded_quad, coded_quads}
 use Rattle.residual.proofs.Quads.{blank_quad}
-use Rattle.residual.proofs.Rooms.{blocks_numbers}
 use Rattle.transform_8x8.specs.Inverse8x8.{inverse8x8, in_range8x8}
 use Rattle.transform_8x8.proofs.Firsts.{blank_block}
 use Rattle.macroblock.specs.Kinds.{coefficients, residual4x4, residual8x8}
 use Rattle.macroblock.specs.Rules.{luma_in_range, chroma_in_range}
+use Rattle.macroblock.proofs.Halves.{early, late}
 use Rattle.macroblock.specs.inner.Blocks.{Transformed, Coded, first_for}
 
 -- ---- the blocks of a list's parts
@@ -82,25 +79,6 @@ part_blocks : (l : List ℤ) (n first b x y : ℕ) → 16 * b + 16 ≤ n → res
 unfolding residual4x4
 part_blocks l n first b x y room = ap (λ t. at (inverse4x4 t) (4 * y + x)) (part_block l n first b room)
 
--- ---- a list whose first n places are put, and then those after them, each through its own part
-module _ {A : Type 0} (z : A) (n : ℕ) (xs out ys : List A) (long : length xs ≡ n) (k : ℕ) where
-  abbrev halves : List A
-  halves = put_mid n k (xs ++ drop n out) ys
-
-  head : length (take n (xs ++ drop n out)) ≡ n
-  head = length-take n (xs ++ drop n out) ∙ omega (arith, length-append xs (drop n out))
-
-  early : (i : ℕ) → i < n → get_or halves i z ≡ get_or xs i z
-  early i h =
-      get_or-append (take n (xs ++ drop n out)) (ys ++ post_of n k (xs ++ drop n out)) z i (omega (arith, head))
-      ∙ get_or-take n (xs ++ drop n out) i z h ∙ get_or-append xs (drop n out) z i (omega arith)
-
-  late : (i j : ℕ) → i ≡ n + j → j < length ys → get_or halves i z ≡ get_or ys j z
-  late i j e h =
-      let at_j : i ≡ length (take n (xs ++ drop n out)) + j = omega (arith, head) in
-      ap (λ m. get_or halves m z) at_j ∙ get_or-append-add (take n (xs ++ drop n out)) (ys ++ post_of n k (xs ++ drop n out)) j z
-      ∙ get_or-append ys (post_of n k (xs ++ drop n out)) z j h
-
 -- the marks of all quads, where all blocks are 4x4
 pub all_coded : (l l' : List ℤ) (coded : List ℕ) → length l ≡ 384 → l' ≡ blockwise 16 inverse4x4 l → coded ≡ coded_quads l → Coded l' coded
 all_coded l l' coded long e f = record {
@@ -126,9 +104,6 @@ module _ (l out xs : List ℤ) (long : length l ≡ 384) (room : length out ≡ 
 
   xs_long : length xs ≡ 256
   xs_long = ap length front ∙ length_table (pos 0) (length (take 256 l)) _ ∙ head_long
-
-  pub kept_long : length m ≡ 384
-  kept_long = simp (length-append, length-drop) (omega (arith, xs_long))
 
   module _ (ys : List ℤ) (e : ys ≡ blockwise 16 inverse4x4 rest) where
     abbrev k : ℕ
@@ -181,11 +156,6 @@ module _ (l out xs : List ℤ) (long : length l ≡ 384) (room : length out ≡ 
 
       pub both_coded : Coded (put_mid 256 k m ys) (put_mid 4 c (xc ++ drop 4 coded) yc)
       both_coded = record { six = simp (length-append, length-take, length-drop) (omega (arith, xc_long, yc_long)); blank = λ q i hq hi z. blank q i hq hi (dec_lt q 4) z }
-
--- what a call puts whose lengths pass, where all its blocks are in range
-pub blocks_made : (n : ℕ) (good : List ℤ → Bool) → 0 < n → ((d : List ℤ) → length d ≡ n → good d ≡ true → all_in_range d ≡ true) → (l old new : List ℤ) {out : List ℤ} {r : ℕ}
-    → length l % n ≡ 0 → r ≡ 0 → out ≡ written r old (cond (all_in_range l) new old) → all_blocks n good l ≡ true → out ≡ new
-blocks_made n good some numbers l old new whole z e g = e ∙ put _ _ z ∙ ap (λ t. cond t new old) (blocks_numbers n good some numbers l whole g)
 
 -- ---- by kind
 pub kind_one : {l l' : List ℤ} (kind : ℕ) → kind ≡ 1 → Transformed 16 l l' → Transformed (first_for kind) l l'

@@ -1,6 +1,6 @@
 -- The decoding of an intra macroblock by its kind: prediction by 8.3.1 (kind 0, 4x4), 8.3.2 (1, 8x8), 8.3.3 (2, 16x16) and 8.3.4 (chroma), residuals by 8.5.1
 -- to 8.5.4, and their sum by 8.5.14.
-use Rattle.std.specs.Prelude.{Bool, List, ℕ, zero, suc, ◌+◌, ◌*◌, ◌/◌, ◌%◌, ℤ, pos, ◌+ℤ◌, get_or}
+use Rattle.std.specs.Prelude.{◌≡◌, Bool, List, ℕ, zero, suc, ◌+◌, ◌*◌, ◌/◌, ◌%◌, ℤ, pos, ◌+ℤ◌, get_or}
 use Rattle.laws.specs.Range.{at}
 use Rattle.laws.specs.Table.{table}
 use Rattle.basics.specs.Clip.{Clip1}
@@ -13,6 +13,8 @@ use Rattle.basics.specs.Near.{Near}
 use Rattle.basics.specs.Nnz.{blk_idx}
 use Rattle.maps.specs.Neighbours.{Side}
 use Rattle.macroblock.specs.declared.Record.{Record}
+use Rattle.macroblock.specs.declared.RecordRef.{RecordRef}
+use Rattle.macroblock.specs.declared.Planes.{Planes}
 use Rattle.basics.specs.declared.marks.Sides.{Sides}
 use Rattle.cut.specs.Cut.{whole, cut_for}
 use Rattle.macroblock.specs.Square.{Rule, all_parts}
@@ -20,6 +22,16 @@ use Rattle.macroblock.specs.Square.{Rule, all_parts}
 -- a record by its parts, as a call is given them
 abbrev pub record_of : ℕ → List ℕ → ℕ → List ℤ → Record
 record_of kind modes chroma numbers = record { kind = kind; modes = modes; chroma_mode = chroma; numbers = numbers }
+
+abbrev pub record_in : RecordRef → Record
+record_in r = record_of r.kind r.modes.now r.chroma_mode r.numbers.now
+
+-- what is lent is the same memory after a call, and its rows stand as far apart
+pub record SameLent (old new : Planes) : Type 0 where
+  pub luma : new.luma.ghost_name ≡ old.luma.ghost_name
+  pub cb : new.cb.ghost_name ≡ old.cb.ghost_name
+  pub cr : new.cr.ghost_name ≡ old.cr.ghost_name
+  pub strides : new.strides ≡ old.strides
 
 -- ---- coefficient blocks of n numbers each: 4x4 blocks are sixteen for luma in scan order, then four for Cb and four for Cr; 8x8 blocks are four for the
 -- luma of kind 1

@@ -120,37 +120,36 @@ module _ (P : Predictor) (modes wide : ℕ) (narrow : wide ≤ 2 * P.side)
   }
 
 -- ---- the four predictors. A mode that is known is below 9, or below 4
-few_nxn : (a l c : Bool) (m : ℕ) → permitted_nxn a l c m ≡ true → m < 9
-few_nxn a l c m ok = go (dec_lt m 9)
+few : (P : ℕ → Bool) (n m : ℕ) → (n ≤ m → P m ≡ false) → P m ≡ true → m < n
+few P n m none ok = go (dec_lt m n)
   where
-    go : Dec (m < 9) → m < 9
+    go : Dec (m < n) → m < n
     go (yes h) = h
-    go (no h) =
-        absurd (not_both ok (rw (
-          ne_eqb m 0 (omega arith),
-          ne_eqb m 1 (omega arith),
-          ne_eqb m 2 (omega arith),
-          ne_eqb m 3 (omega arith),
-          ne_eqb m 4 (omega arith),
-          ne_eqb m 5 (omega arith),
-          ne_eqb m 6 (omega arith),
-          ne_eqb m 7 (omega arith),
-          ne_eqb m 8 (omega arith),
-        )))
+    go (no h) = absurd (not_both ok (none (omega arith)))
+
+few_nxn : (a l c : Bool) (m : ℕ) → permitted_nxn a l c m ≡ true → m < 9
+few_nxn a l c m =
+    few (permitted_nxn a l c) 9 m (λ h. rw (
+      ne_eqb m 0 (omega arith),
+      ne_eqb m 1 (omega arith),
+      ne_eqb m 2 (omega arith),
+      ne_eqb m 3 (omega arith),
+      ne_eqb m 4 (omega arith),
+      ne_eqb m 5 (omega arith),
+      ne_eqb m 6 (omega arith),
+      ne_eqb m 7 (omega arith),
+      ne_eqb m 8 (omega arith),
+    ))
 
 few_16x16 : (a l c : Bool) (m : ℕ) → permitted16x16 a l c m ≡ true → m < 4
-few_16x16 a l c m ok = go (dec_lt m 4)
-  where
-    go : Dec (m < 4) → m < 4
-    go (yes h) = h
-    go (no h) = absurd (not_both ok (rw (ne_eqb m 0 (omega arith), ne_eqb m 1 (omega arith), ne_eqb m 2 (omega arith), ne_eqb m 3 (omega arith))))
+few_16x16 a l c m =
+    few (permitted16x16 a l c) 4 m
+    (λ h. rw (ne_eqb m 0 (omega arith), ne_eqb m 1 (omega arith), ne_eqb m 2 (omega arith), ne_eqb m 3 (omega arith)))
 
 few_chroma : (a l c : Bool) (m : ℕ) → permitted_chroma a l c m ≡ true → m < 4
-few_chroma a l c m ok = go (dec_lt m 4)
-  where
-    go : Dec (m < 4) → m < 4
-    go (yes h) = h
-    go (no h) = absurd (not_both ok (rw (ne_eqb m 0 (omega arith), ne_eqb m 1 (omega arith), ne_eqb m 2 (omega arith), ne_eqb m 3 (omega arith))))
+few_chroma a l c m =
+    few (permitted_chroma a l c) 4 m
+    (λ h. rw (ne_eqb m 0 (omega arith), ne_eqb m 1 (omega arith), ne_eqb m 2 (omega arith), ne_eqb m 3 (omega arith)))
 
 pub unread_4x4 : Unread luma4x4 8
 unread_4x4 m a l c p q ok w x y hx hy = promise_4x4.absent_unread m a l c p q x y ok hx hy w

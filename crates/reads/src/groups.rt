@@ -1,142 +1,109 @@
 // The groups of samples beside a block that a mode reads where some are marked as available: none where the mode is unknown or not permitted. As four
-// marks, and as one number: 1 above, 2 left, 4 corner, 8 above-right, added up.
-ghost use Rattle.std.specs.Prelude.{◌≡◌, false, cond, ◌&&◌, ◌≤◌};
-ghost use Rattle.reads.specs.Exactly.{Exactly, luma4x4, luma8x8, luma16x16, chroma8x8};
-ghost use Rattle.reads.specs.Groups.{groups_of, marked, group_set, named_nxn};
-ghost use Rattle.reads.specs.Groups.{reads4x4, reads8x8, reads16x16, reads_chroma};
+// marks, and as one number: 1 above, 2 left, 4 corner, 8 above-right, added up. All marks of a set are computed side by side, with no branch.
+ghost use Rattle.std.specs.Prelude.{◌≡◌, cond, ◌&&◌, ◌≤◌};
+ghost use Rattle.reads.specs.Exactly.{Predictor as Definition, Exactly, luma4x4, luma8x8, luma16x16, chroma8x8};
+ghost use Rattle.reads.specs.Groups.{groups_of, group_set, named_nxn, reads4x4, reads8x8};
 
 use basics::marks::{Sides, permits_16x16, permits_chroma, permits_nxn};
-use basics::tests::{both, either};
 
-// What a 4x4 luma block reads, as one number.
-pub fn reads_4x4(
-    mode: u8,
-    avail_top: bool,
-    avail_left: bool,
-    avail_corner: bool,
-    avail_right: bool,
-) -> u8
-    ensures value { result ≡ group_set (reads4x4 (marked avail_top avail_left avail_corner avail_right) mode) }
-    ensures exactly { Exactly luma4x4 }
-{
-    let sides = Sides {
-        above: avail_top,
-        left: avail_left,
-        corner: avail_corner,
-        above_right: avail_right,
-    };
-    set_of(groups_4x4(mode, sides))
-}
+// A predictor of blocks. What each one reads beside a block is told exactly. A mode is any number: C asks of numbers that name no mode too (`reads4x4`).
+pub trait Predictor {
+    ghost definition: { Definition };
 
-// What an 8x8 luma block reads, as one number.
-pub fn reads_8x8(
-    mode: u8,
-    avail_top: bool,
-    avail_left: bool,
-    avail_corner: bool,
-    avail_right: bool,
-) -> u8
-    ensures value { result ≡ group_set (reads8x8 (marked avail_top avail_left avail_corner avail_right) mode) }
-    ensures exactly { Exactly luma8x8 }
-{
-    let sides = Sides {
-        above: avail_top,
-        left: avail_left,
-        corner: avail_corner,
-        above_right: avail_right,
-    };
-    set_of(groups_8x8(mode, sides))
-}
+    // The groups that a mode reads of the sides that are there.
+    fn groups(mode: u8, sides: Sides) -> Sides
+        ensures value { groups_of result ≡ definition.reads (groups_of sides) mode }
+        ensures exactly { Exactly definition };
 
-// What a 16x16 luma block reads, as one number: never above-right.
-pub fn reads_16x16(mode: u8, avail_top: bool, avail_left: bool, avail_corner: bool) -> u8
-    ensures value { result ≡ group_set (reads16x16 (marked avail_top avail_left avail_corner false) mode) }
-    ensures exactly { Exactly luma16x16 }
-{
-    let sides = Sides {
-        above: avail_top,
-        left: avail_left,
-        corner: avail_corner,
-        above_right: false,
-    };
-    set_of(groups_16x16(mode, sides))
-}
-
-// What an 8x8 chroma block reads, as one number: never above-right.
-pub fn reads_chroma(mode: u8, avail_top: bool, avail_left: bool, avail_corner: bool) -> u8
-    ensures value { result ≡ group_set (reads_chroma (marked avail_top avail_left avail_corner false) mode) }
-    ensures exactly { Exactly chroma8x8 }
-{
-    let sides = Sides {
-        above: avail_top,
-        left: avail_left,
-        corner: avail_corner,
-        above_right: false,
-    };
-    set_of(groups_chroma(mode, sides))
-}
-
-// The same by the sides of a block that are there, as marks of the sides that are read.
-pub fn groups_4x4(mode: u8, sides: Sides) -> Sides
-    ensures { groups_of result ≡ reads4x4 (groups_of sides) mode }
-{
-    let permitted = permits_nxn(mode, sides.above, sides.left, sides.corner);
-    read_of(permitted, named_nxn(mode), sides)
-}
-
-pub fn groups_8x8(mode: u8, sides: Sides) -> Sides
-    ensures { groups_of result ≡ reads8x8 (groups_of sides) mode }
-{
-    let read = groups_4x4(mode, sides);
-    let corner = both(either(read.above, read.left), sides.corner);
-    let above_right = both(both(read.above, mode != 6), sides.above_right);
-    Sides {
-        above: read.above,
-        left: read.left,
-        corner,
-        above_right,
+    // The same as one number.
+    final fn reads(mode: u8, sides: Sides) -> u8
+        ensures value { result ≡ group_set (definition.reads (groups_of sides) mode) }
+        ensures exactly { Exactly definition }
+    {
+        set_of(Self::groups(mode, sides))
     }
 }
 
-pub fn groups_16x16(mode: u8, sides: Sides) -> Sides
-    ensures { groups_of result ≡ reads16x16 (groups_of sides) mode }
-{
-    let permitted = permits_16x16(mode, sides.above, sides.left, sides.corner);
-    let named = Sides {
-        above: mode != 1,
-        left: mode != 0,
-        corner: mode == 3,
-        above_right: false,
-    };
-    read_of(permitted, named, sides)
+// A 4x4 luma block.
+pub struct Luma4x4;
+
+impl Predictor for Luma4x4 {
+    ghost definition = { luma4x4 };
+
+    fn groups(mode: u8, sides: Sides) -> Sides {
+        let permitted = permits_nxn(mode, sides);
+        read_of(permitted, named_nxn(mode), sides)
+    }
 }
 
-pub fn groups_chroma(mode: u8, sides: Sides) -> Sides
-    ensures { groups_of result ≡ reads_chroma (groups_of sides) mode }
-{
-    let permitted = permits_chroma(mode, sides.above, sides.left, sides.corner);
-    let named = Sides {
-        above: mode != 1,
-        left: mode != 2,
-        corner: mode == 3,
-        above_right: false,
-    };
-    read_of(permitted, named, sides)
+// An 8x8 luma block.
+pub struct Luma8x8;
+
+impl Predictor for Luma8x8 {
+    ghost definition = { luma8x8 };
+
+    fn groups(mode: u8, sides: Sides) -> Sides {
+        filtered(mode, Luma4x4::groups(mode, sides), sides)
+    }
+}
+
+// A 16x16 luma block: never above-right.
+pub struct Luma16x16;
+
+impl Predictor for Luma16x16 {
+    ghost definition = { luma16x16 };
+
+    fn groups(mode: u8, sides: Sides) -> Sides {
+        let permitted = permits_16x16(mode, sides);
+        let named = Sides {
+            above: mode != 1,
+            left: mode != 0,
+            corner: mode == 3,
+            above_right: false,
+        };
+        read_of(permitted, named, sides)
+    }
+}
+
+// An 8x8 chroma block: never above-right.
+pub struct Chroma8x8;
+
+impl Predictor for Chroma8x8 {
+    ghost definition = { chroma8x8 };
+
+    fn groups(mode: u8, sides: Sides) -> Sides {
+        let permitted = permits_chroma(mode, sides);
+        let named = Sides {
+            above: mode != 1,
+            left: mode != 2,
+            corner: mode == 3,
+            above_right: false,
+        };
+        read_of(permitted, named, sides)
+    }
 }
 
 // The groups that the formula of a 4x4 or 8x8 mode names.
 fn named_nxn(mode: u8) -> Sides
     ensures { groups_of result ≡ named_nxn mode }
 {
-    let left_alone = either(mode == 1, mode == 8);
-    let above_alone = either(either(mode == 0, mode == 3), mode == 7);
-    let corner = either(either(mode == 4, mode == 5), mode == 6);
-    let above_right = either(mode == 3, mode == 7);
     Sides {
-        above: !left_alone,
-        left: !above_alone,
-        corner,
-        above_right,
+        above: !((mode == 1) | (mode == 8)),
+        left: !((mode == 0) | (mode == 3) | (mode == 7)),
+        corner: (mode == 4) | (mode == 5) | (mode == 6),
+        above_right: (mode == 3) | (mode == 7),
+    }
+}
+
+// What an 8x8 block reads where a 4x4 block reads so: the filter takes the corner to the sides that are read, and above-right to the last sample above.
+fn filtered(mode: u8, read: Sides, there: Sides) -> Sides
+    ensures { groups_of read ≡ reads4x4 (groups_of there) mode → groups_of result ≡ reads8x8 (groups_of there) mode }
+{
+    Sides {
+        above: read.above,
+        left: read.left,
+        corner: (read.above | read.left) & there.corner,
+        above_right: read.above & (mode != 6) & there.above_right,
     }
 }
 
@@ -145,10 +112,10 @@ fn read_of(permitted: bool, named: Sides, there: Sides) -> Sides
     ensures { groups_of result ≡ (λ g. permitted && groups_of named g && groups_of there g) }
 {
     Sides {
-        above: both(both(permitted, named.above), there.above),
-        left: both(both(permitted, named.left), there.left),
-        corner: both(both(permitted, named.corner), there.corner),
-        above_right: both(both(permitted, named.above_right), there.above_right),
+        above: permitted & named.above & there.above,
+        left: permitted & named.left & there.left,
+        corner: permitted & named.corner & there.corner,
+        above_right: permitted & named.above_right & there.above_right,
     }
 }
 

@@ -90,6 +90,10 @@ marks_are {r} {f} ea eb ec ed = λ i k. at k i
     at C = ec
     at D = ed
 
+-- and where none is marked it is empty
+pub no_marks : {r : Marks} → (r.a ≡ false) × ((r.b ≡ false) × ((r.c ≡ false) × (r.d ≡ false))) → marks_of r ≡ (λ _. false)
+no_marks (a, (b, (c, d))) = marks_are a b c d
+
 -- ---- who holds a block's groups, by where the block stands
 -- 6.4.12: the neighbour in the first column of places, in the first row, and beyond the last column or not
 abbrev neighbour_at : (first_column first_row inside : Bool) → Side → Bool

@@ -1,43 +1,48 @@
 -- `macroblock::decode` meets its contract: every square lies in its plane and no mode is refused, so the numbers alone decide, before anything is written; where
 -- they are in range the residuals are the definition's. Assumes nothing.
-use mathlib.Core.Path.{refl, sym, ◌∙◌}
-use mathlib.Core.List.{[]}
-use native.Mathlib.Omega.{arith}
+use mathlib.Core.Path.{◌≡◌, refl, sym, ap, ◌∙◌, subst}
+use mathlib.Core.Bool.{cond, ◌&&◌}
 use lib.ListN.{length}
-use Rattle.laws.proofs.Answers.{holds, broken}
+use Rattle.std.proofs.Common.{rules}
+use Rattle.refusals.specs.Refusal.{number, number_of}
 use Rattle.maps.specs.Neighbours.{marks_of}
-use Rattle.macroblock.specs.Kinds.{record_of}
-use Rattle.macroblock.specs.Rules.{numbers_good}
+use Rattle.macroblock.specs.Kinds.{record_in}
+use Rattle.macroblock.specs.Rules.{luma_in_range, chroma_in_range, numbers_good}
+use Rattle.macroblock.specs.inner.Blocks.{LumaReady}
 use Rattle.macroblock.proofs.Early.{EarlyFine, early_fine}
 use Rattle.macroblock.proofs.Rooms.{AllStand, all_stand}
 use Rattle.macroblock.proofs.decode.Goals as goal
 use Rattle.macroblock.proofs.decode.Goals.{Start}
 
 -- what is known of it and of its squares
-fine : (c : Start) → EarlyFine (marks_of c.args.spot.marks) ((let a = c.args in record_of a.kind a.modes.now a.chroma_mode a.numbers.now))
-fine c = early_fine (marks_of c.args.spot.marks) ((let a = c.args in record_of a.kind a.modes.now a.chroma_mode a.numbers.now)) c.requires.numbers_value
+fine : (c : Start) → EarlyFine (marks_of c.args.spot.marks) (record_in c.args.rec)
+fine c = early_fine (marks_of c.args.spot.marks) (record_in c.args.rec) c.requires.record_value
 
 stand : (c : Start) → let a = c.args in
-    AllStand a.spot.x a.spot.y (length a.luma.now) (length a.cb.now) (length a.cr.now) a.spot.strides (marks_of a.spot.marks)
-stand c = all_stand _ _ _ _ _ _ (marks_of c.args.spot.marks) c.requires.marks_value
+    AllStand a.spot.x a.spot.y (length a.planes.now.luma.now) (length a.planes.now.cb.now) (length a.planes.now.cr.now) a.spot.strides (marks_of a.spot.marks)
+stand c = all_stand _ _ _ _ _ _ (marks_of c.args.spot.marks) c.requires.rooms_value
 
 pub residuals_of-requires : goal.residuals_of-requires
 residuals_of-requires c = ((fine (goal.at.residuals_of-requires c).Start).all, refl, refl)
 
-pub returns-then-not-residuals_of : goal.returns-then-not-residuals_of
-unfolding numbers_good
-returns-then-not-residuals_of c = let out = sym c.residuals_of.ensures.value ∙ c.if-not-residuals_of.true in
-    record { value = sym (broken 8 [] out); luma_after = refl; cb_after = refl; cr_after = refl }
-
 pub all_squares-requires : goal.all_squares-requires
 all_squares-requires c = let f = fine (goal.at.all_squares-requires c).Start in
     let s = stand (goal.at.all_squares-requires c).Start in
-    let long = c.residuals-2-1.given in record { luma_ready = record { stands = s.luma; fine = f.luma; sixteen = f.sixteen; all = long }; chroma_ready = record { stands = s.cb; fine = f.chroma; all = long; four = omega arith }; chroma_ready_2 = record { stands = s.cr; fine = f.chroma; all = long; four = omega arith }; coded = c.residuals_of.ensures.coded (c.if-not-residuals_of.false) }
+    let a = c.args in
+    record {
+      luma_ready = subst (λ n. LumaReady n a.spot (length a.planes.now.luma.now) a.rec.modes.now) (sym c.requires.kind_value)
+          (record { stands = s.luma; fine = f.luma; sixteen = f.sixteen });
+      cb_ready = record { stands = s.cb; fine = f.chroma };
+      cr_ready = record { stands = s.cr; fine = f.chroma };
+    }
 
-pub returns : goal.returns
+pub returns-in_err-residuals_of-clause-value : goal.returns-in_err-residuals_of-clause-value
 unfolding numbers_good
-returns c = let n = c.args.numbers.now in
-    let good = c.if-not-residuals_of.false in
-    let T = c.residuals_of.ensures.transformed good in
-    let m = c.all_squares.ensures in
-    record { value = sym (holds 8 [] (sym c.residuals_of.ensures.value ∙ good)); luma_after = m.luma_after n T; cb_after = m.cb_after n T; cr_after = m.cr_after n T }
+returns-in_err-residuals_of-clause-value c = let l = c.args.rec.numbers.now in
+    let e : number_of c.from_residual.result ≡ number c.in_err-residuals_of.field-0.0 = search rules in
+    e ∙ c.in_err-residuals_of.ensures.value ∙ ap (λ n. cond (luma_in_range n l && chroma_in_range l) 0 8) c.requires.kind_value
+
+pub returns-clause-value : goal.returns-clause-value
+unfolding numbers_good
+returns-clause-value c = let l = c.args.rec.numbers.now in
+    c.in_ok-residuals_of.ensures.value ∙ ap (λ n. cond (luma_in_range n l && chroma_in_range l) 0 8) c.requires.kind_value

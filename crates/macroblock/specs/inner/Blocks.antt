@@ -1,5 +1,5 @@
 -- Blocks in their macroblock and in their plane.
-use Rattle.std.specs.Prelude.{◌≡◌, Bool, true, List, ℕ, zero, suc, ◌+◌, ◌*◌, ◌-◌, ◌/◌, ◌%◌, ◌<◌, ◌≤◌, ltb, ℤ, pos, ◌+ℤ◌, get_or, length, replicate}
+use Rattle.std.specs.Prelude.{◌≡◌, Bool, true, List, ℕ, zero, suc, ◌+◌, ◌*◌, ◌-◌, ◌/◌, ◌%◌, ◌<◌, ◌≤◌, ltb, ℤ, pos, ◌+ℤ◌, get_or, length}
 use Rattle.laws.specs.Patch.{patch}
 use Rattle.laws.specs.Range.{at}
 use Rattle.basics.specs.Clip.{Clip1}
@@ -38,16 +38,6 @@ pub record StandsIn (side : ℕ) (p : Place) (n : ℕ) (sides : Sides) : Type 0 
   pub block : BlockIn side p n
   pub beside : SidesIn side p sides
 
--- room for the samples above a block, and for those left of it too, filled with zeros
-pub record BlankTop (side : ℕ) (top : List ℕ) : Type 0 where
-  pub least : side ≤ length top
-  pub most : length top ≤ 2 * side
-  pub zeros : top ≡ replicate (length top) 0
-
-pub record Blank (side : ℕ) (top left : List ℕ) : Type 0 where
-  pub above : BlankTop side top
-  pub zeros : left ≡ replicate side 0
-
 -- luma block k's mode, as a predictor answers it: 0 where it is known and permitted where it stands
 abbrev pub mode_fine : ℕ → List ℕ → (Side → Bool) → ℕ → ℕ
 mode_fine kind modes marks k = mode_answer (last_mode kind) (permitted_for kind (sides_of (cut_for kind).across marks k)) (get_or modes k 0)
@@ -61,19 +51,16 @@ pub record Coded (residuals : List ℤ) (coded : List ℕ) : Type 0 where
 abbrev pub luma_place : Spot → Place
 luma_place spot = place_at spot.strides.luma spot.y spot.x
 
--- it lies in its plane, its modes are fine, and its lists have their lengths
-pub record LumaReady (kind : ℕ) (spot : Spot) (n : ℕ) (modes : List ℕ) (residuals : List ℤ) : Type 0 where
+-- it lies in its plane, its modes are fine, and there are sixteen of them
+pub record LumaReady (kind : ℕ) (spot : Spot) (n : ℕ) (modes : List ℕ) : Type 0 where
   pub stands : StandsIn 16 (luma_place spot) n (square_sides (marks_of spot.marks))
   pub fine : (k : ℕ) → k < used kind → mode_fine kind modes (marks_of spot.marks) k ≡ 0
   pub sixteen : length modes ≡ 16
-  pub all : length residuals ≡ 384
 
--- the same of a chroma square, whose residuals are those of the blocks from `base` on
-pub record ChromaReady (mode base stride : ℕ) (spot : Spot) (n : ℕ) (residuals : List ℤ) : Type 0 where
+-- a chroma square lies in its plane, and its mode is fine
+pub record ChromaReady (mode stride : ℕ) (spot : Spot) (n : ℕ) : Type 0 where
   pub stands : StandsIn 8 (place_at stride spot.y spot.x) n (square_sides (marks_of spot.marks))
   pub fine : let marks = marks_of spot.marks in mode_answer 3 (permitted_chroma (marks B) (marks A) (marks D)) mode ≡ 0
-  pub all : length residuals ≡ 384
-  pub four : base + 4 ≤ 24
 
 -- the rows of a square of that side, `apart` apart from `off` on, lie in a list of n samples
 pub record RoomIn (side off apart n : ℕ) : Type 0 where

@@ -11,5 +11,6 @@ pub returns : goal.returns
 returns c = let b = c.requires in
     c.holders_at.ensures
     ∙ ap₂ (λ i j. holders_at (eqb i 0) (eqb j 0) (eqb (i + 1) c.args.m) (groups_of c.args.read))
-    (c.scan_column-column.ensures ∙ column_is c.args.m c.args.k b) (c.scan_row-row.ensures ∙ row_is c.args.m c.args.k b)
+    (c.from-column.ensures ∙ c.scan_column.ensures ∙ column_is c.args.m c.args.k b)
+    (c.from-row.ensures ∙ c.scan_row.ensures ∙ row_is c.args.m c.args.k b)
     ∙ holders_are c.args.m c.args.k b (groups_of c.args.read)

@@ -4,7 +4,7 @@ use native.Mathlib.Omega.{arith}
 use mir.Facts.{to_z-of_z}
 use borrow.Author.Rules.{sfits_of}
 use lib.IntN.{pos, ◌+ℤ◌}
-use lib.ListN.{get_or, length-set}
+use lib.ListN.{get_or}
 use Rattle.laws.specs.Range.{at}
 use Rattle.laws.proofs.Patches.{front_next, front_none}
 use Rattle.basics.specs.Clip.{Clip1}
@@ -22,12 +22,3 @@ returns c = let a = c.args in
     (simp (to_z-of_z, sfits_of, c.sum_of-arg-2-1.given) at c.sum_of-b.ensures))
     (simp (to_z-of_z, sfits_of, c.sum_of-arg-3-1.given) at c.sum_of-c.ensures))
     (simp (to_z-of_z, sfits_of, c.sum_of-arg-4-1.given) at c.sum_of-d.ensures)
-
-pub bounds-row-1 : goal.bounds-row-1
-bounds-row-1 c = simp length-set (omega arith)
-
-pub bounds-row-2 : goal.bounds-row-2
-bounds-row-2 c = simp length-set (omega arith)
-
-pub bounds-row-3 : goal.bounds-row-3
-bounds-row-3 c = simp length-set (omega arith)

@@ -3,7 +3,7 @@ use mathlib.Core.Path.{◌≡◌}
 use Prim.Native.Nat.{ℕ}
 use native.Mathlib.Omega.{arith}
 use lib.IntN.{pos, ◌+ℤ◌}
-use lib.ListN.{get_or, length-set}
+use lib.ListN.{get_or}
 use Rattle.laws.proofs.Patches.{front_next, front_none}
 use Rattle.basics.specs.Clip.{Clip1}
 use Rattle.macroblock.proofs.Rows.{clip_byte}
@@ -22,27 +22,3 @@ returns c = let l = c.args.row.now in
     (front_next 2 3 f l (omega arith) (omega arith)
     (front_next 1 2 f l (omega arith) (omega arith)
     (front_next 0 1 f l (omega arith) (omega arith) (front_none f l) (same 0)) (same 1)) (same 2)) (same 3)) (same 4)) (same 5)) (same 6)) (same 7)
-
-pub bounds-row-1 : goal.bounds-row-1
-bounds-row-1 c = simp length-set (omega arith)
-
-pub bounds-row-2 : goal.bounds-row-2
-bounds-row-2 c = simp length-set (omega arith)
-
-pub bounds-row-3 : goal.bounds-row-3
-bounds-row-3 c = simp length-set (omega arith)
-
-pub bounds-row-4 : goal.bounds-row-4
-bounds-row-4 c = simp length-set (omega arith)
-
-pub bounds-row-5 : goal.bounds-row-5
-bounds-row-5 c = simp length-set (omega arith)
-
-pub bounds-row-6 : goal.bounds-row-6
-bounds-row-6 c = simp length-set (omega arith)
-
-pub bounds-row-7 : goal.bounds-row-7
-bounds-row-7 c = simp length-set (omega arith)
-
-pub shape_of-row : goal.shape_of-row
-shape_of-row c = simp length-set

@@ -1,10 +1,8 @@
 -- `macroblock::put::put_16x16` meets its contract. The invariant: the first k quads are put; all of them make up the block. Assumes nothing.
-use mathlib.Core.Path.{◌≡◌, sym, ap, ap₂, ◌∙◌, subst}
+use mathlib.Core.Path.{◌≡◌, sym, ap₂, ◌∙◌, subst}
 use mathlib.Core.List.{List}
 use Prim.Native.Nat.{ℕ, ◌+◌, ◌*◌, ◌/◌, ◌%◌, ◌<◌}
 use native.Mathlib.Omega.{arith}
-use borrow.Author.Tests.{eqb-true, not-false}
-use lib.Dec.{eqb}
 use lib.IntN.{ℤ, pos, ◌+ℤ◌}
 use lib.ListN.{get_or, length}
 use Rattle.laws.specs.Range.{at}
@@ -43,54 +41,36 @@ sum_is pred residuals x y hx hy =
 
 here : (c : After-scan_y-v) → let a = c.args in
     AtQuarter 8 a.place (length a.plane.now) c.scan_x-u.result c.scan_y-v.result
-here c = at_quarter (omega arith) (omega arith) c.requires.block_in.0 c.scan_x-u.ensures c.scan_y-v.ensures
+here c = at_quarter (omega arith) (omega arith) c.requires c.scan_x-u.ensures c.scan_y-v.ensures
 
 pub put_quad-requires : goal.put_quad-requires
-put_quad-requires c = let h = here (goal.at.put_quad-requires c).After-scan_y-v in
-    let k = c.loop-k.k in
-    let mark = get_or c.args.coded.now k 0 in record {
-      block_in = (subst (BlockIn 8 _) (sym (same_long c.loop-k.invariant)) h.block, record { inside = omega (arith, c.requires.block_in.1, h.across, h.down) });
-      base_bound = (
-        omega arith,
-        c.requires.residuals_len.0,
-        λ e i hi. ap (at c.args.residuals.now) (let f : 16 * (4 * k) + i ≡ 64 * k + i = omega arith in f)
-            ∙ c.requires.residuals_len.1.blank k i (omega arith) hi (eqb-true mark 0 (not-false (eqb mark 0) e)),
-      );
-    }
+put_quad-requires c = let h = here (goal.at.put_quad-requires c).After-scan_y-v in record {
+  block_in = (subst (BlockIn 8 _) (sym (same_long c.loop-k.invariant)) h.block, record { inside = omega (arith, h.across, h.down) });
+  q_bound = omega arith;
+}
 
 pub loop-k-preserved : goal.loop-k-preserved
 loop-k-preserved c = one_more c.loop-k.invariant (omega arith) c.scan_x-u.ensures c.scan_y-v.ensures c.put_quad.ensures
 
-pub returns : goal.returns
-returns c = let a = c.args in
-    all_put c.loop-k.invariant (sum_over a.pred.now 0 16 (in_pieces a.residuals.now 0)) (omega arith) (omega arith) c.requires.block_in.0 (sum_is a.pred.now a.residuals.now)
-
 pub loop-k-init : goal.loop-k-init
 loop-k-init c = none_yet
 
-pub overflow_mul-quad : goal.overflow_mul-quad
-overflow_mul-quad c = let h = here (goal.at.overflow_mul-quad c).After-scan_y-v in omega arith
+pub returns : goal.returns
+returns c = let a = c.args in
+    let l = a.residuals.list.now in
+    all_put c.loop-k.invariant (sum_over a.pred.now 0 16 (in_pieces l 0)) (omega arith) (omega arith) c.requires (sum_is a.pred.now l)
 
 pub overflow_add-quad : goal.overflow_add-quad
-overflow_add-quad c = let h = here (goal.at.overflow_add-quad c).After-scan_y-v in omega arith
-
-pub overflow_mul-quad-in-loop-k : goal.overflow_mul-quad-in-loop-k
-overflow_mul-quad-in-loop-k c = let h = here (goal.at.overflow_mul-quad-in-loop-k c).After-scan_y-v in omega (arith, h.block.wide, h.block.short)
+overflow_add-quad c = let h = here (goal.at.overflow_add-quad c).After-scan_y-v in omega (arith, h.line, h.down)
 
 pub overflow_add-quad-in-loop-k : goal.overflow_add-quad-in-loop-k
 overflow_add-quad-in-loop-k c = let h = here (goal.at.overflow_add-quad-in-loop-k c).After-scan_y-v in omega (arith, h.block.wide, h.block.short)
 
-pub bounds-coded-k : goal.bounds-coded-k
-bounds-coded-k c = omega (arith, c.requires.residuals_len.1.six)
+pub overflow_mul-from : goal.overflow_mul-from
+overflow_mul-from c = let h = here (goal.at.overflow_mul-from c).After-scan_y-v in omega (arith, h.down)
 
-pub overflow_mul-v : goal.overflow_mul-v
-overflow_mul-v c = let h = here (goal.at.overflow_mul-v c).After-scan_y-v in omega arith
+pub overflow_mul-from-in-loop-k : goal.overflow_mul-from-in-loop-k
+overflow_mul-from-in-loop-k c = let h = here (goal.at.overflow_mul-from-in-loop-k c).After-scan_y-v in omega (arith, h.across)
 
-pub overflow_mul-u : goal.overflow_mul-u
-overflow_mul-u c = let h = here (goal.at.overflow_mul-u c).After-scan_y-v in omega arith
-
-pub overflow_add-v : goal.overflow_add-v
-overflow_add-v c = let h = here (goal.at.overflow_add-v c).After-scan_y-v in omega arith
-
-pub shape_of-plane : goal.shape_of-plane
-shape_of-plane c = same_long c.loop-k.invariant
+pub overflow_add-from : goal.overflow_add-from
+overflow_add-from c = let h = here (goal.at.overflow_add-from c).After-scan_y-v in omega (arith, h.down, h.across)

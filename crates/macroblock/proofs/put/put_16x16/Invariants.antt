@@ -1,6 +1,6 @@
 -- `macroblock::put::put_16x16` meets its contract. The invariant: the first k quads are put; all of them make up the block. Assumes nothing.
 use mathlib.Core.List.{List}
-use Prim.Native.Nat.{ℕ, ◌+◌, ◌*◌, ◌-◌}
+use Prim.Native.Nat.{ℕ, ◌+◌, ◌*◌}
 use lib.IntN.{ℤ}
 use Rattle.macroblock.specs.inner.Blocks.{sum_over, in_pieces}
 use Rattle.macroblock.proofs.Quarters.{Quarters}
@@ -11,7 +11,4 @@ abbrev pub sums : List ℕ → List ℤ → ℕ → ℕ → ℕ → ℕ → ℕ 
 sums pred residuals k u v = sum_over pred (v * 128 + u * 8) 16 (in_pieces residuals (4 * k))
 
 abbrev pub invariant-loop-k : goal.invariant-loop-k
-invariant-loop-k l = Quarters 8 l.place (sums l.pred l.residuals) l.initial.plane l.k l.plane
-
-abbrev pub decreases-loop-k : goal.decreases-loop-k
-decreases-loop-k l = 4 - l.k
+invariant-loop-k l = Quarters 8 l.place (sums l.pred l.residuals.list.now) l.initial.plane l.k l.plane

@@ -1,20 +1,14 @@
--- `macroblock::put::put_4x4` meets its contract: a piece whose prediction is a square by itself. Assumes nothing.
+-- `macroblock::put::put_4x4` meets its contract: the block's residuals are its sixteen. Assumes nothing.
+use Prim.Native.Nat.{◌+◌, ◌*◌, ◌-◌}
 use native.Mathlib.Omega.{arith}
-use Rattle.macroblock.proofs.Fitting.{in_row}
-use Rattle.macroblock.proofs.Sums.{room_at, piece_put, block_long}
+use borrow.Rule.Slice.PartMut.{mid_of}
+use Rattle.laws.specs.Range.{at}
+use Rattle.macroblock.specs.inner.Blocks.{in_piece}
+use Rattle.macroblock.proofs.Sums.{put_sums, block_at_lem}
 use Rattle.macroblock.proofs.put.put_4x4.Goals as goal
-
-pub overflow_mul-off : goal.overflow_mul-off
-overflow_mul-off c = omega (arith, (in_row 0 c.requires.block_in.0 (omega arith)).line)
-
-pub add_4x4-requires : goal.add_4x4-requires
-add_4x4-requires c = let a = c.args in (
-  omega (arith, c.requires.block_in.0.wide),
-  room_at c.requires.block_in.0,
-  record { inside = omega (arith, c.requires.block_in.1) },
-  block_long 16 a.b a.residuals.now (omega (arith, c.requires.b_bound.0, c.requires.b_bound.1)),
-)
 
 pub returns : goal.returns
 returns c = let a = c.args in
-    piece_put 0 4 a.b a.place a.pred.now a.plane.now a.residuals.now c.requires.block_in.0 c.add_4x4.ensures
+    let l = a.residuals.list.now in
+    put_sums 4 0 4 a.place a.pred.now a.plane.now (λ x y. at (mid_of (16 * a.b) (16 * a.b + 16 - 16 * a.b) l) (4 * y + x)) (in_piece l a.b) (omega arith) c.put_block.ensures
+    (λ x y hx hy. block_at_lem 16 a.b (4 * y + x) l (omega arith))

@@ -1,22 +1,18 @@
--- `macroblock::rules::greatest_of` meets its contract. The invariant: the greatest of the modes passed is at most what each of them is. Assumes nothing.
-use mathlib.Core.Path.{◌≡◌, sym, ap, ◌∙◌}
-use mathlib.Core.Bool.{◌&&◌}
-use native.Mathlib.Omega.{arith}
+-- `macroblock::rules::greatest_of` meets its contract: it is at most what each of the modes is. Assumes nothing.
+use Rattle.std.proofs.Common.{rules, ◌∙◌, ◌&&◌}
+use Rattle.std.proofs.lemmas.Iterator.{YieldsList-from_slice}
+use Rattle.std.proofs.lemmas.Iterator.Consumers.{fold_from_yields_List}
+use borrow.Author.Tests.{tests}
+use mathlib.Core.Path.{ap}
+use Prim.Native.Nat.{max}
 use lib.Dec.{leb, leb-zero}
-use lib.ListN.{get_or, length}
+use lib.ListN.{length, get_or}
 use Rattle.laws.specs.Table.{all_below}
-use Rattle.laws.proofs.Tests.{all_none, all_next}
-use borrow.Author.Rules.{rules}
+use Rattle.macroblock.proofs.Known.{fold_low}
 use Rattle.macroblock.proofs.rules.greatest_of.Goals as goal
 
-pub loop-k-init : goal.loop-k-init
-loop-k-init c = (search rules, λ a. leb-zero a ∙ sym (all_none _))
-
-pub loop-k-preserved : goal.loop-k-preserved
-loop-k-preserved c = let l = c.args.modes.now in
-    (search rules, λ a. c.greater-g.ensures a ∙ ap (λ t. t && leb (get_or l c.loop-k.k 0) a) (c.loop-k.invariant.1 a) ∙ all_next c.loop-k.k (λ j. leb (get_or l j 0) a))
-
 pub returns : goal.returns
-returns c a = let l = c.args.modes.now in
-    let n : c.loop-k.k ≡ length l = omega arith in
-    c.loop-k.invariant.1 a ∙ ap (λ k. all_below k (λ j. leb (get_or l j 0) a)) n
+returns c a =
+    ap (λ n. leb n a)
+    (fold_from_yields_List _ max 0 _ c.fold.ensures.ran (YieldsList-from_slice c.args.modes.now cc) (λ g x b q k. search (rules, tests)))
+    ∙ fold_low 0 a c.args.modes.now ∙ ap (λ t. t && all_below (length c.args.modes.now) (λ k. leb (get_or c.args.modes.now k 0) a)) (leb-zero a)

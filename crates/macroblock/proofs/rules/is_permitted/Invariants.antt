@@ -2,15 +2,11 @@
 -- passed are permitted. Assumes nothing.
 use mathlib.Core.Path.{◌≡◌}
 use mathlib.Core.Bool.{true}
-use Prim.Native.Nat.{◌-◌, ◌≤◌}
-use lib.ListN.{length}
 use Rattle.laws.specs.Table.{all_below}
+use Rattle.cut.specs.Kind.{kind_number}
 use Rattle.maps.specs.Neighbours.{marks_of}
 use Rattle.macroblock.specs.Rules.{permitted_at}
 use Rattle.macroblock.proofs.rules.is_permitted.Given as goal
 
 abbrev pub invariant-loop-k : goal.invariant-loop-k
-invariant-loop-k l = (l.k ≤ l.n) × (length l.modes ≡ 16) × (all_below l.k (permitted_at l.kind l.modes (marks_of l.marks)) ≡ true)
-
-abbrev pub decreases-loop-k : goal.decreases-loop-k
-decreases-loop-k l = l.n - l.k
+invariant-loop-k l = all_below l.k (permitted_at (kind_number l.kind) l.modes (marks_of l.marks)) ≡ true

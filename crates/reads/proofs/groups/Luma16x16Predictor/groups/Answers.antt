@@ -1,0 +1,12 @@
+-- `reads::groups::Luma16x16::groups` meets its contract: permitted, named and there, and exact. Assumes nothing.
+use Rattle.std.proofs.Common.{refl, ◌∙◌}
+use Rattle.reads.specs.Groups.{groups_of}
+use Rattle.reads.proofs.Exactly.{exactly_16x16}
+use Rattle.reads.proofs.Tables.{groups_are, read_same}
+use Rattle.reads.proofs.groups.Luma16x16Predictor.groups.Goals as goal
+
+pub returns : goal.returns
+returns c = record {
+  value = c.read_of.ensures ∙ read_same (groups_of c.args.sides) c.permits_16x16-permitted.ensures (groups_are refl refl refl refl);
+  exactly = exactly_16x16;
+}
