@@ -2,7 +2,7 @@
 -- addresses only, so no run gets stuck. Assumes nothing.
 use mathlib.Core.Path.{◌≡◌, refl, sym, ap, subst, ◌∙◌}
 use mathlib.Core.List.{List, [], ◌∷◌, ◌++◌, map}
-use Prim.Native.Nat.{ℕ, ◌<◌}
+use Prim.Native.Nat.{ℕ, ◌<◌, ◌≤◌}
 use lib.ListN.{length, replicate}
 use lib.Seq.{ext_get_or}
 use Rattle.laws.proofs.Answers.{refused}
@@ -10,6 +10,7 @@ use Rattle.order.specs.Order.{Alike, Done, AllDone, First, Permitted, undone_fro
 use Rattle.order.specs.Driver.{Fair, Spares, after, play, answers, Carries}
 use Rattle.order.proofs.AnyOrder.{done_agrees, ok_steps}
 use Rattle.order.proofs.Driver.{Sound, done_is_raster, whole_is_raster, padding_kept, ok_kept, counted, count_full, play_append, sound_run, first_taken, Offered, Taken, permitted_taken, rest_taken, rest_full, raster_taken}
+use Rattle.order.proofs.Driver.{sound_play, done_kept, taken_now}
 use Rattle.order.proofs.Raster.{raster_permitted, raster_done, build_raster}
 use Rattle.order.proofs.Undone.{some_first}
 use Rattle.maps.specs.Progress.{start_answer}
@@ -103,6 +104,13 @@ module _ (g : Picture) (s : Lent) (lends : Lends g s) where
 
     permitted : (o : List ℕ) → Permitted (total_of g) (Awaits g) o (run g cs s).done → answers driver (map (offer g) o) (run g cs s) ≡ replicate (length o) 0
     permitted o t = (permitted_taken fairly sparing only_earlier (offer g) o (run g cs s) (sound cs) (offered (run g cs s) ok) t).0
+
+  -- from a state that is as long as it should be, what waits for done ones only is taken after any calls, while it is undone
+  pub still_taken : length s.done ≡ total_of g → s.progress.count ≤ total_of g → (a : ℕ) → a < total_of g → Acceptable (offer g a)
+      → ((b : ℕ) → Awaits g a b → Done s.done b) → (cs : List Call) → ¬ Done (play driver cs s).done a → answer_to (offer g a) (play driver cs s) ≡ 0
+  still_taken long few a h ok ready cs undone =
+      let now = sound_play fairly sparing cs s (record { good = λ p. refl; long = long; few = few }) in
+      taken_now fairly sparing (play driver cs s) now (acceptable g s lends a h ok) undone (λ b w. done_kept fairly cs s b long (ready b w))
 
   in_raster_lem : AllAcceptable g → answers driver (map (offer g) (raster (total_of g))) (started g s) ≡ replicate (total_of g) 0
   in_raster_lem ok = raster_taken fairly sparing only_earlier (offer g) (begins g s lends) good (offered (started g s) (λ a h u. ok a h))

@@ -27,12 +27,16 @@ module _ (c : Call) (s : Lent) where
 pub lent_same : {l l' b b' r r' d d' : List ℕ} {p p' : Progress} → l ≡ l' → b ≡ b' → r ≡ r' → d ≡ d' → p ≡ p' → lent l b r d p ≡ lent l' b' r' d' p'
 lent_same e f g h k = cc
 
-pub lent_rebuilt : (c : Call) (l b r d : List ℕ) (p : Progress)
-    → lent (square_in c luma l) (square_in c cb b) (square_in c cr r) (set d (here c) 1) (accepted_of p (here c) (total c.width c.height)) ≡ rebuilt c (lent l b r d p)
-lent_rebuilt c l b r d p =
-    ap (λ f. record { planes = f; done = set d (here c) 1; progress = accepted_of p (here c) (total c.width c.height) }) (λ i q. each q i)
+-- lent whose planes a step has changed, one by one
+pub lent_by : (f : Plane → List ℕ → List ℕ) (l b r d : List ℕ) (p : Progress)
+    → lent (f luma l) (f cb b) (f cr r) d p ≡ record { planes = λ q. f q (three l b r q); done = d; progress = p }
+lent_by f l b r d p = ap (λ g. record { planes = g; done = d; progress = p }) (λ i q. each q i)
   where
-    each : (q : Plane) → three (square_in c luma l) (square_in c cb b) (square_in c cr r) q ≡ square_in c q (three l b r q)
+    each : (q : Plane) → three (f luma l) (f cb b) (f cr r) q ≡ f q (three l b r q)
     each luma = refl
     each cb = refl
     each cr = refl
+
+pub lent_rebuilt : (c : Call) (l b r d : List ℕ) (p : Progress)
+    → lent (square_in c luma l) (square_in c cb b) (square_in c cr r) (set d (here c) 1) (accepted_of p (here c) (total c.width c.height)) ≡ rebuilt c (lent l b r d p)
+lent_rebuilt c l b r d p = lent_by (square_in c) l b r (set d (here c) 1) (accepted_of p (here c) (total c.width c.height))

@@ -1,5 +1,5 @@
 -- Commit's promise, way by way: refused, or accepted. Assumes nothing.
-use mathlib.Core.Path.{◌≡◌, refl, sym, ap}
+use mathlib.Core.Path.{◌≡◌, sym}
 use mathlib.Core.List.{List}
 use Prim.Native.Nat.{ℕ}
 use lib.ListN.{set}
@@ -7,9 +7,9 @@ use Rattle.laws.proofs.Answers.{refused}
 use Rattle.maps.specs.Progress.{accepted_of}
 use Rattle.maps.specs.Size.{total}
 use Rattle.maps.specs.declared.progress.Progress.{Progress}
-use Rattle.calls.specs.Planes.{Plane, three}
 use Rattle.calls.specs.Planes.Plane.{luma, cb, cr}
 use Rattle.calls.specs.Rebuild.{Call, Lent, lent, here}
+use Rattle.calls.proofs.Rebuilt.{lent_by}
 use Rattle.halves.specs.Halves.{commit_answer, put_in, committed, Commits}
 
 module _ (c : Call) (block : List ℕ) where
@@ -23,10 +23,4 @@ module _ (c : Call) (block : List ℕ) where
   pub lent_committed : (l b r d : List ℕ) (p : Progress)
       → lent (put_in c block luma l) (put_in c block cb b) (put_in c block cr r) (set d (here c) 1) (accepted_of p (here c) (total c.width c.height))
       ≡ committed c block (lent l b r d p)
-  lent_committed l b r d p =
-      ap (λ f. record { planes = f; done = set d (here c) 1; progress = accepted_of p (here c) (total c.width c.height) }) (λ i q. each q i)
-    where
-      each : (q : Plane) → three (put_in c block luma l) (put_in c block cb b) (put_in c block cr r) q ≡ put_in c block q (three l b r q)
-      each luma = refl
-      each cb = refl
-      each cr = refl
+  lent_committed l b r d p = lent_by (put_in c block) l b r (set d (here c) 1) (accepted_of p (here c) (total c.width c.height))

@@ -5,18 +5,18 @@ use Prim.Native.Nat.{ℕ, ◌<◌}
 use native.Mathlib.Nat.{lt_trans}
 use lib.ListN.{length, set, length-set}
 use borrow.Author.Tests.{eq-eqb}
-use Rattle.order.specs.Driver.{Fair, Spares, play, taken_by}
+use Rattle.order.specs.Driver.{Fair, play, taken_by}
 use Rattle.order.specs.Order.{Alike, Laws, Done, Ready, build, Permitted}
-use Rattle.order.proofs.Driver.{Ran, ran, done_kept, Sound, sound_play, taken_now}
+use Rattle.order.proofs.Driver.{Ran, ran}
 use Rattle.order.proofs.Settled.{done_still, elsewhere, ok_run}
 use Rattle.maps.specs.Progress.{start_answer}
 use Rattle.maps.proofs.Sizes.{size_yes}
 use Rattle.calls.specs.Planes.{side}
 use Rattle.calls.specs.Rebuild.{Call, Lent, here, Acceptable, answer_to}
 use Rattle.calls.specs.Run.{Picture, total_of, offer, Waits, Lends, sample_at, driver, Own}
-use Rattle.calls.proofs.AnyOrder.{own_offers}
+use Rattle.calls.proofs.AnyOrder.{own_offers, still_taken}
 use Rattle.calls.proofs.Lending.{plane_yes}
-use Rattle.calls.proofs.OnePicture.{view, accepted_passed, fair, spares, step, offer_here, Depends, carries, bytes, Good, laws, acceptable}
+use Rattle.calls.proofs.OnePicture.{view, accepted_passed, fair, step, offer_here, Depends, carries, laws}
 use Rattle.calls.proofs.Rules.{Passed, passed_0, first_0, ready_0, by_record}
 use Rattle.halves.specs.Halves.{samples_of, committed}
 use Rattle.halves.specs.Lasting.{Lasting}
@@ -56,20 +56,14 @@ module _ (g : Picture) (a : ℕ) (s : Lent) (e : answer_to (offer g a) s ≡ 0) 
   fairly : Fair driver view (total_of g) here Waits
   fairly = fair (total_of g)
 
-  sparing : Spares driver view (total_of g) here (Good g s lends)
-  sparing = spares (total_of g) (bytes g s lends)
-
-  sound : Sound fairly sparing s
-  sound = record { good = λ p. refl; long = passed.room.done_long; few = passed.room.few }
-
   good_record : Acceptable (offer g a)
   good_record = sym (by_record (offer g a) s (first_0 (offer g a) s (passed_0 (offer g a) s e)) (ready_0 (offer g a) s e)) ∙ e
 
   inside : a < total_of g
-  inside = subst (λ n. n < total_of g) (offer_here g a) (fairly.takes (offer g a) s e sound.long).0
+  inside = subst (λ n. n < total_of g) (offer_here g a) (fairly.takes (offer g a) s e passed.room.done_long).0
 
   waited : (b : ℕ) → Waits (offer g a) b → Done s.done b
-  waited = (fairly.takes (offer g a) s e sound.long).2
+  waited = (fairly.takes (offer g a) s e passed.room.done_long).2
 
   ready : Ready (Depends g) s.done a
   ready b w = waited b (((carries g (offer g a ∷ []) s (own_offers g (a ∷ []) s)).0 e).awaits b (subst (λ n. Depends g n b) (sym (offer_here g a)) w))
@@ -77,18 +71,16 @@ module _ (g : Picture) (a : ℕ) (s : Lent) (e : answer_to (offer g a) s ≡ 0) 
   -- after more calls
   module _ (cs : List Call) where
     still : ¬ Done (play driver cs s).done a → answer_to (offer g a) (play driver cs s) ≡ 0
-    still undone =
-        taken_now fairly sparing (play driver cs s) (sound_play fairly sparing cs s sound) (acceptable g s lends a inside good_record) undone
-        (λ b w. done_kept fairly cs s b sound.long (waited b w))
+    still = still_taken g s lends passed.room.done_long passed.room.few a inside good_record waited cs
 
     same : Own g cs s → samples_of (offer g a) (play driver cs s).planes ≡ samples_of (offer g a) s.planes
     same own =
         sym (samples_alike (offer g a) s.planes passed.room.planes passed.place (play driver cs s).planes (λ p i t.
-        ready_held (laws g s lends) a inside (taken_by driver here cs s) s.planes s.done (λ q. refl) sound.long went.permitted ready (p, i) t
+        ready_held (laws g s lends) a inside (taken_by driver here cs s) s.planes s.done (λ q. refl) passed.room.done_long went.permitted ready (p, i) t
         ∙ ap (λ m. sample_at (step g a m) (p, i)) (sym went.memory)))
       where
         went : Ran fairly (step g) (Depends g) cs s
-        went = ran fairly (step g) (Depends g) cs s sound.long (carries g cs s own)
+        went = ran fairly (step g) (Depends g) cs s passed.room.done_long (carries g cs s own)
 
 pub lasting : (g : Picture) → Lasting g
 lasting g = record {

@@ -9,7 +9,7 @@ use lib.Seq.{ext_get_or}
 use Rattle.order.specs.Driver.{Fair, Spares, play, answers}
 use Rattle.order.specs.Lists.{Names, Permutes}
 use Rattle.order.specs.Order.{Alike, Done, Ready, build, marked, Permitted}
-use Rattle.order.proofs.Driver.{Ran, ran, taken_all, taken_count, done_kept, Sound, sound_play, taken_now, order_taken}
+use Rattle.order.proofs.Driver.{Ran, ran, taken_all, taken_count, Sound, sound_play, order_taken}
 use Rattle.order.proofs.Lists.{names_permuted, length_permuted}
 use Rattle.order.proofs.Orders.{permitted_fewer}
 use Rattle.order.proofs.Permuted.{marked_permuted, build_permuted}
@@ -18,7 +18,7 @@ use Rattle.maps.specs.Progress.{start_answer}
 use Rattle.calls.specs.Planes.{Plane, side, plane_ok}
 use Rattle.calls.specs.Rebuild.{Call, Lent, here, Acceptable, answer_to}
 use Rattle.calls.specs.Run.{Picture, total_of, offer, Waits, Awaits, Lends, Planes, Location, sample_at, Region, driver}
-use Rattle.calls.proofs.AnyOrder.{own_offers}
+use Rattle.calls.proofs.AnyOrder.{own_offers, still_taken}
 use Rattle.calls.proofs.OnePicture.{view, fair, spares, step, offer_here, Depends, awaits_adjoins, carries, bytes, Good, sized, awaits_smaller, laws, told, acceptable}
 use Rattle.calls.proofs.Squares.{depends_marked}
 use Rattle.turn_list.proofs.Begun.{Begins, turn_begins, turn_apart, turn_permitted, turn_has_first, turn_some}
@@ -62,9 +62,7 @@ module _ (g : Picture) (s : Lent) (k : WellLent g s) where
   -- what was drawn stays good
   stays : (a : ℕ) → Names (turn_of g s.done) a → Acceptable (offer g a) → (cs : List Call) → ¬ Done (play driver cs s).done a
       → answer_to (offer g a) (play driver cs s) ≡ 0
-  stays a n ok cs undone =
-      taken_now fairly sparing (play driver cs s) (sound_play fairly sparing cs s sound) (acceptable g s k.lends a (begins_at g s.done a n).inside ok) undone
-      (λ b w. done_kept fairly cs s b sound.long (ready g s.done a n b w))
+  stays a n ok = still_taken g s k.lends sound.long k.few a (begins_at g s.done a n).inside ok (ready g s.done a n)
 
 -- ---- two of a turn
 module _ (g : Picture) (s : Lent) (l : Lends g s) where
