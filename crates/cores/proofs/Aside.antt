@@ -107,14 +107,14 @@ module _ (s : Strides) (x y : ℕ) (marks : Side → Bool) (planes : Plane → L
   room_here cb = and_right (fits luma) (fits cb) (and_left (fits luma && fits cb) (fits cr) ok)
   room_here cr = and_right (fits luma && fits cb) (fits cr) ok
 
-  module _ (r : Record) (small : Plane → List ℕ) (long : (p : Plane) → length (small p) ≡ 2 * side p * (3 * side p))
+  module _ (mb : Record) (small : Plane → List ℕ) (long : (p : Plane) → length (small p) ≡ 2 * side p * (3 * side p))
       (same : (p : Plane) → SameAround (side p) marks (here p) (small_site (side p) (small p))) where
     abbrev there : Plane → Site
     there p = small_site (side p) (small p)
 
     -- what the macroblock call leaves
     abbrev left : (x y : ℕ) → (Plane → ℕ) → (Plane → List ℕ) → Plane → List ℕ
-    left x y s l = three (luma_square x y marks r (s luma) (l luma)) (cb_square x y marks r (s cb) (l cb)) (cr_square x y marks r (s cr) (l cr))
+    left x y s l = three (luma_square x y marks mb (s luma) (l luma)) (cb_square x y marks mb (s cb) (l cb)) (cr_square x y marks mb (s cr) (l cr))
 
     room_there : (p : Plane) → HasRoom (side p) marks (there p)
     room_there luma = subst (λ n. room 16 n 48 1 1 marks ≡ true) (sym (long luma)) (small_luma marks)
@@ -125,9 +125,9 @@ module _ (s : Strides) (x y : ℕ) (marks : Side → Bool) (planes : Plane → L
     alike : (p : Plane) (i j : ℕ) → i < side p → j < side p
         → get_or (left 1 1 (λ q. 3 * side q) small p) ((1 * side p + j) * (3 * side p) + (1 * side p + i)) 0
         ≡ get_or (left x y stride planes p) ((y * side p + j) * stride p + (x * side p + i)) 0
-    alike luma i j hi hj = sym ((moved marks r).luma (here luma) (there luma) (room_here luma) (room_there luma) (same luma) i j hi hj)
-    alike cb i j hi hj = sym ((moved marks r).cb (here cb) (there cb) (room_here cb) (room_there cb) (same cb) i j hi hj)
-    alike cr i j hi hj = sym ((moved marks r).cr (here cr) (there cr) (room_here cr) (room_there cr) (same cr) i j hi hj)
+    alike luma i j hi hj = sym ((moved marks mb).luma (here luma) (there luma) (room_here luma) (room_there luma) (same luma) i j hi hj)
+    alike cb i j hi hj = sym ((moved marks mb).cb (here cb) (there cb) (room_here cb) (room_there cb) (same cb) i j hi hj)
+    alike cr i j hi hj = sym ((moved marks mb).cr (here cr) (there cr) (room_here cr) (room_there cr) (same cr) i j hi hj)
 
     -- where a square begins in its small plane
     abbrev begins : Plane → ℕ
@@ -144,8 +144,16 @@ module _ (s : Strides) (x y : ℕ) (marks : Side → Bool) (planes : Plane → L
     pub cut_out : (now : Plane → List ℕ) → ((p : Plane) → now p ≡ left 1 1 (λ q. 3 * side q) small p)
         → (b₀ b₁ b₂ b₃ : List ℕ) → length b₀ ≡ 384
         → b₁ ≡ put_rect 16 16 0 16 (cut now luma) b₀ → b₂ ≡ put_rect 8 8 256 8 (cut now cb) b₁ → b₃ ≡ put_rect 8 8 320 8 (cut now cr) b₂
-        → b₃ ≡ block_at s x y marks r (planes luma) (planes cb) (planes cr)
+        → b₃ ≡ block_at s x y marks mb (planes luma) (planes cb) (planes cr)
     cut_out now e b₀ b₁ b₂ b₃ l e₁ e₂ e₃ =
         block_is _ b₃ (block_kept (cut now) b₀ b₁ b₂ b₃ l e₁ e₂ e₃) (λ p i j hi hj.
         shows (cut now) b₀ b₁ b₂ b₃ l e₁ e₂ e₃ p i j hi hj ∙ ap (λ n. get_or (now p) n 0) (cut_is p i j)
         ∙ ap (λ m. get_or m ((1 * side p + j) * (3 * side p) + (1 * side p + i)) 0) (e p) ∙ alike p i j hi hj)
+
+    -- the same, with each small plane given by the rectangle that is cut out of it
+    pub cut_of : {l b r : List ℕ} (b₀ b₁ b₂ b₃ : List ℕ) → length b₀ ≡ 384
+        → b₁ ≡ put_rect 16 16 0 16 (λ i j. get_or l (784 + j * 48 + i) 0) b₀ → b₂ ≡ put_rect 8 8 256 8 (λ i j. get_or b (200 + j * 24 + i) 0) b₁
+        → b₃ ≡ put_rect 8 8 320 8 (λ i j. get_or r (200 + j * 24 + i) 0) b₂
+        → l ≡ left 1 1 (λ q. 3 * side q) small luma → b ≡ left 1 1 (λ q. 3 * side q) small cb → r ≡ left 1 1 (λ q. 3 * side q) small cr
+        → b₃ ≡ block_at s x y marks mb (planes luma) (planes cb) (planes cr)
+    cut_of {l} {b} {r} b₀ b₁ b₂ b₃ k e₁ e₂ e₃ f g h = cut_out (three l b r) (each _ f g h) b₀ b₁ b₂ b₃ k e₁ e₂ e₃

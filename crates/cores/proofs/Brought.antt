@@ -20,7 +20,7 @@ use Rattle.macroblock.proofs.Places.{put_is_put}
 use Rattle.macroblock.proofs.Rooms.{room_stands}
 use Rattle.moved.specs.Moved.{SameAround}
 use Rattle.cores.specs.inner.Aside.{small_site}
-use Rattle.cores.specs.inner.Rects.{Width, Half, RectIn, in_rect, put_rect, put_rect_if}
+use Rattle.cores.specs.inner.Rects.{Half, RectIn, in_rect, put_rect, put_rect_if}
 use Rattle.cores.proofs.Rects.{marked_at, marked_other, marked_length}
 
 -- ---- a macroblock's side
@@ -31,10 +31,6 @@ half_some (inr e) = omega arith
 half_most : {q : ℕ} → Half q → q ≤ 16
 half_most (inl e) = omega arith
 half_most (inr e) = omega arith
-
-pub half_width : {q : ℕ} → Half q → Width q
-half_width (inl e) = inr (inl e)
-half_width (inr e) = inr (inr e)
 
 -- ---- the square of macroblock (x, y), in a plane of n samples
 abbrev pub here : (q stride x y : ℕ) → ℕ
@@ -96,10 +92,10 @@ module _ (q stride x y n : ℕ) where
 
 -- ---- a small plane of k samples
 module _ (q : ℕ) where
-  abbrev wide : ℕ
+  abbrev pub wide : ℕ
   wide = 3 * q
 
-  abbrev middle : ℕ
+  abbrev pub middle : ℕ
   middle = q * wide + q
 
   pub record Small (k : ℕ) : Type 0 where
@@ -119,37 +115,25 @@ pub known : (q stride x y n k : ℕ) (m : Marks) → Half q × (k ≡ 2 * q * wi
 known q stride x y n k m h e =
     let f = found q stride x y n m h.0 e in record { lies = f.0; beside = f.1; small = small_is q h.0 h.1 }
 
--- ---- what `bring` requires, side by side
-abbrev Brings : (q stride x y n k : ℕ) → Bool → (width height back off : ℕ) → Type 0
-Brings q stride x y n k mark w h back off = record {
-  width : Width w × (w ≤ wide q) × RectIn w h off (wide q) k;
-  back_le_here : mark ≡ true → (back ≤ here q stride x y) × RectIn w h (here q stride x y - back) stride n;
-}
+-- ---- each marked side's rectangle lies in both planes
+module _ {q stride x y n k : ℕ} {m : Marks} (w : Known q stride x y n k m) {first apart off s : ℕ} (at : apart ≡ stride) (wd : s ≡ wide q) where
+  pub rect_a : m.a ≡ true → first ≡ here q stride x y - 1 → off ≡ middle q - 1 → RectIn 1 q first apart n × RectIn 1 q off s k
+  rect_a t e f = let p = w.beside.on_a t in rw (at, wd, e, f) (record { inside = omega arith }, record { inside = omega arith })
 
-module _ {q stride x y n k : ℕ} {m : Marks} (w : Known q stride x y n k m) where
-  pub brings_a : {j : ℕ} → j ≡ k → Brings q stride x y n j m.a 1 q 1 (middle q - 1)
-  brings_a e = record {
-    width = (inl refl, omega arith, record { inside = omega arith });
-    back_le_here = λ t. let f = w.beside.on_a t in (omega arith, record { inside = omega arith });
-  }
+  pub rect_b : m.b ≡ true → first ≡ here q stride x y - stride → off ≡ middle q - wide q → RectIn q 1 first apart n × RectIn q 1 off s k
+  rect_b t e f = let p = w.beside.on_b t in rw (at, wd, e, f) (record { inside = omega arith }, record { inside = omega arith })
 
-  pub brings_b : {j : ℕ} → Half q → j ≡ k → Brings q stride x y n j m.b q 1 stride (middle q - wide q)
-  brings_b h e = record {
-    width = (half_width h, omega arith, record { inside = omega arith });
-    back_le_here = λ t. let f = w.beside.on_b t in (omega arith, record { inside = omega arith });
-  }
+  pub rect_c : m.c ≡ true → first ≡ here q stride x y - (stride - q) → off ≡ middle q - (wide q - q) → RectIn q 1 first apart n × RectIn q 1 off s k
+  rect_c t e f = let p = w.beside.on_c t in rw (at, wd, e, f) (record { inside = omega arith }, record { inside = omega arith })
 
-  pub brings_c : {j : ℕ} → Half q → j ≡ k → Brings q stride x y n j m.c q 1 (stride - q) (middle q - wide q + q)
-  brings_c h e = record {
-    width = (half_width h, omega arith, record { inside = omega arith });
-    back_le_here = λ t. let f = w.beside.on_c t in (omega arith, record { inside = omega arith });
-  }
+  pub rect_d : m.d ≡ true → first ≡ here q stride x y - (stride + 1) → off ≡ middle q - (wide q + 1) → RectIn 1 1 first apart n × RectIn 1 1 off s k
+  rect_d t e f = let p = w.beside.on_d t in rw (at, wd, e, f) (record { inside = omega arith }, record { inside = omega arith })
 
-  pub brings_d : {j : ℕ} → j ≡ k → Brings q stride x y n j m.d 1 1 (stride + 1) (middle q - wide q - 1)
-  brings_d e = record {
-    width = (inl refl, omega arith, record { inside = omega arith });
-    back_le_here = λ t. let f = w.beside.on_d t in (omega arith, record { inside = omega arith });
-  }
+-- ---- a side's rectangle is put where it is marked, and nothing else
+pub put_yes : (w h off s first apart : ℕ) (plane l : List ℕ) {m : Bool} {off' s' first' apart' : ℕ} {l' : List ℕ} → m ≡ true
+    → (first' ≡ first) × (apart' ≡ apart) → (off' ≡ off) × (s' ≡ s) → l' ≡ put_rect w h off' s' (λ i j. get_or plane (first' + j * apart' + i) 0) l
+    → l' ≡ put_rect_if m w h off s (λ i j. get_or plane (first + j * apart + i) 0) l
+put_yes w h off s first apart plane l t e f p = rw (t, sym e.0, sym e.1, sym f.0, sym f.1) p
 
 -- ---- a rectangle, brought where it is marked
 module _ (w h off s : ℕ) (u : ℕ → ℕ → ℕ) (m : Bool) (l l' : List ℕ) (e : l' ≡ put_rect_if m w h off s u l) where
@@ -174,15 +158,18 @@ module _ (w off s : ℕ) (u : ℕ → ℕ → ℕ) (m : Bool) (l l' : List ℕ) 
   leaves_after h = leaves (λ i hi k. omega arith)
 
 -- ---- after all four the small plane shows around its square what the plane shows around macroblock (x, y)
+abbrev pub taken_of : (q stride x y : ℕ) (plane : List ℕ) → ℕ → ℕ → ℕ → ℕ
+taken_of q stride x y plane back i j = get_or plane (here q stride x y - back + j * stride + i) 0
+
 module _ (q stride x y n : ℕ) (m : Marks) (plane l₀ l₁ l₂ l₃ l₄ : List ℕ) where
   abbrev taken : ℕ → ℕ → ℕ → ℕ
-  taken back i j = get_or plane (here q stride x y - back + j * stride + i) 0
+  taken = taken_of q stride x y plane
 
   pub record Brought : Type 0 where
     pub a : l₁ ≡ put_rect_if m.a 1 q (middle q - 1) (wide q) (taken 1) l₀
     pub b : l₂ ≡ put_rect_if m.b q 1 (middle q - wide q) (wide q) (taken stride) l₁
-    pub c : l₃ ≡ put_rect_if m.c q 1 (middle q - wide q + q) (wide q) (taken (stride - q)) l₂
-    pub d : l₄ ≡ put_rect_if m.d 1 1 (middle q - wide q - 1) (wide q) (taken (stride + 1)) l₃
+    pub c : l₃ ≡ put_rect_if m.c q 1 (middle q - (wide q - q)) (wide q) (taken (stride - q)) l₂
+    pub d : l₄ ≡ put_rect_if m.d 1 1 (middle q - (wide q + 1)) (wide q) (taken (stride + 1)) l₃
 
   module _ (w : Lies q stride x y n) (b : Beside q stride x y n m) (v : Small q (length l₀)) (e : Brought) where
     abbrev row : ℕ
@@ -195,20 +182,20 @@ module _ (q stride x y n : ℕ) (m : Marks) (plane l₀ l₁ l₂ l₃ l₄ : Li
     long₂ = same_long q 1 row (wide q) (taken stride) m.b l₁ l₂ e.b ∙ long₁
 
     long₃ : length l₃ ≡ length l₀
-    long₃ = same_long q 1 (row + q) (wide q) (taken (stride - q)) m.c l₂ l₃ e.c ∙ long₂
+    long₃ = same_long q 1 (middle q - (wide q - q)) (wide q) (taken (stride - q)) m.c l₂ l₃ e.c ∙ long₂
 
     -- a side that is brought is left by the sides brought after it
     module _ (i : ℕ) where
       left_d : row ≤ i → get_or l₃ i 0 ≡ get_or l₄ i 0
-      left_d h = leaves_after 1 (row - 1) (wide q) (taken (stride + 1)) m.d l₃ l₄ e.d i (omega arith)
+      left_d h = leaves_after 1 (middle q - (wide q + 1)) (wide q) (taken (stride + 1)) m.d l₃ l₄ e.d i (omega arith)
 
       left_c : row ≤ i → i < row + q → get_or l₂ i 0 ≡ get_or l₄ i 0
-      left_c h k = leaves_before q (row + q) (wide q) (taken (stride - q)) m.c l₂ l₃ e.c i k ∙ left_d h
+      left_c h k = leaves_before q (middle q - (wide q - q)) (wide q) (taken (stride - q)) m.c l₂ l₃ e.c i (omega arith) ∙ left_d h
 
       left_b : q * wide q ≤ i → get_or l₁ i 0 ≡ get_or l₄ i 0
       left_b h =
           leaves_after q row (wide q) (taken stride) m.b l₁ l₂ e.b i (omega arith)
-          ∙ leaves_after q (row + q) (wide q) (taken (stride - q)) m.c l₂ l₃ e.c i (omega arith) ∙ left_d (omega arith)
+          ∙ leaves_after q (middle q - (wide q - q)) (wide q) (taken (stride - q)) m.c l₂ l₃ e.c i (omega arith) ∙ left_d (omega arith)
 
     same : (i j : ℕ) → i ≡ j → get_or plane i 0 ≡ get_or plane j 0
     same i j = ap (λ i. get_or plane i 0)
@@ -234,7 +221,7 @@ module _ (q stride x y n : ℕ) (m : Marks) (plane l₀ l₁ l₂ l₃ l₄ : Li
     shown_c on t h =
         let p = b.on_c on in
         same _ (here q stride x y - (stride - q) + 0 * stride + t) (omega (arith, add-mul x 1 q))
-        ∙ sym (now_there q 1 (row + q) (wide q) (taken (stride - q)) m.c l₂ l₃ e.c t 0 _ on (omega arith) h (omega arith) (omega arith)
+        ∙ sym (now_there q 1 (middle q - (wide q - q)) (wide q) (taken (stride - q)) m.c l₂ l₃ e.c t 0 _ on (omega arith) h (omega arith) (omega arith)
         (omega (arith, long₂)))
         ∙ left_d _ (omega arith)
 
@@ -242,8 +229,8 @@ module _ (q stride x y n : ℕ) (m : Marks) (plane l₀ l₁ l₂ l₃ l₄ : Li
     shown_d on =
         let p = b.on_d on in
         same _ (here q stride x y - (stride + 1) + 0 * stride + 0) (omega arith)
-        ∙ sym (now_there 1 1 (row - 1) (wide q) (taken (stride + 1)) m.d l₃ l₄ e.d 0 0 _ on (omega arith) (omega arith) (omega arith) (omega arith)
-        (omega (arith, long₃)))
+        ∙ sym (now_there 1 1 (middle q - (wide q + 1)) (wide q) (taken (stride + 1)) m.d l₃ l₄ e.d 0 0 _ on (omega arith) (omega arith) (omega arith)
+        (omega arith) (omega (arith, long₃)))
 
     pub all_around : SameAround q (marks_of m) (record { stride = stride; x = x; y = y; plane = plane }) (small_site q l₄)
     all_around A on t h = simp one-mul (shown_a (T_true m.a on) t h)

@@ -1,65 +1,20 @@
--- Rectangles of samples: rows of one, eight or sixteen, put one after the other, and what stands where afterwards. Assumes nothing.
-use mathlib.Core.Path.{◌≡◌, refl, sym, ap, ap₂, ◌∙◌}
+-- Rectangles of samples: rows put one after the other, and what stands where afterwards. Assumes nothing.
+use mathlib.Core.Path.{◌≡◌, refl, ap, ap₂, ◌∙◌}
 use mathlib.Core.Bool.{Bool, true, false, ◌&&◌}
-use mathlib.Core.Logic.{inl, inr}
 use mathlib.Core.List.{List}
 use Prim.Native.Nat.{ℕ, ◌+◌, ◌*◌, ◌-◌, ◌/◌, ◌%◌, ◌<◌, ◌≤◌}
-use native.Mathlib.Decide.{dec_lt}
 use native.Mathlib.Nat.{div-add-mod', mul-le-mul_right}
 use native.Mathlib.Omega.{arith}
-use borrow.Author.Tests.{lt-ltb, le-ltb, le-leb, leb-true, ltb-true}
+use borrow.Author.Tests.{lt-ltb, le-leb, leb-true, ltb-true}
 use borrow.Rule.Slice.PartMut.{put_mid, mid_of}
 use lib.Arith.{digits_div, digits_mod}
 use lib.Dec.{ltb, leb, ltb→lt}
 use lib.ListN.{length, get_or}
-use Rattle.laws.specs.Patch.{patch}
-use Rattle.laws.proofs.Patches.{length_patch, patch_other, patch_here, patch_grow, patch_same, put_patch, front, length_front}
+use Rattle.laws.proofs.Patches.{length_patch, patch_other, patch_here, patch_same, front}
 use Rattle.laws.proofs.Stretches.{part_at}
 use Rattle.laws.proofs.Tests.{true_t, T_true, and_both, and_of, not_both}
 use Rattle.residual.proofs.Squares.{put_rows, length_rows, rows_none, rows_more}
-use Rattle.cores.specs.inner.Rects.{Width, RectIn, in_rect, put_rect, put_rect_if}
-
--- ---- a row's width, by what it is not
-pub width_some : {n : ℕ} → Width n → 0 < n
-width_some (inl e) = omega arith
-width_some (inr (inl e)) = omega arith
-width_some (inr (inr e)) = omega arith
-
-pub width_8 : {n : ℕ} → Width n → ¬ (n ≡ 1) → 8 ≤ n
-width_8 (inl e) n = absurd (n e)
-width_8 (inr (inl e)) n = omega arith
-width_8 (inr (inr e)) n = omega arith
-
-pub width_16 : {n : ℕ} → Width n → ¬ (n ≡ 1) → ¬ (n ≡ 8) → n ≡ 16
-width_16 (inl e) n m = absurd (n e)
-width_16 (inr (inl e)) n m = absurd (m e)
-width_16 (inr (inr e)) n m = e
-
--- ---- a front that grows by a part
-module _ (a n : ℕ) (f : ℕ → ℕ) where
-  abbrev in_part : ℕ → Bool
-  in_part i = leb a i && ltb (i - a) n
-
-  hit : (i : ℕ) → in_part i ≡ true → (ltb i (a + n) ≡ true) × (f (a + (i - a)) ≡ f i)
-  hit i t =
-      let b = and_both (leb a i) (ltb (i - a) n) t in
-      let lo : a ≤ i = leb-true a i b.0 in
-      let hi : i - a < n = ltb-true (i - a) n b.1 in
-      (lt-ltb i (a + n) (omega arith), ap f (omega arith))
-
-  miss : (i : ℕ) → in_part i ≡ false → ltb i a ≡ ltb i (a + n)
-  miss i t = go (dec_lt i a) (dec_lt i (a + n))
-    where
-      go : Dec (i < a) → Dec (i < a + n) → ltb i a ≡ ltb i (a + n)
-      go (yes p) k = lt-ltb i a p ∙ sym (lt-ltb i (a + n) (omega arith))
-      go (no p) (yes k) = absurd (not_both (and_of (le-leb a i (omega arith)) (lt-ltb (i - a) n (omega arith))) t)
-      go (no p) (no k) = le-ltb i a (omega arith) ∙ sym (le-ltb i (a + n) (omega arith))
-
-  pub front_part : (l l' row : List ℕ) → a ≤ length l → l' ≡ front f a l → row ≡ front (λ i. f (a + i)) n (mid_of a (length l' - a) l')
-      → put_mid a (length l' - a) l' row ≡ front f (a + n) l
-  front_part l l' row h e r =
-      ap (put_mid a (length l' - a) l') r ∙ put_patch a (λ i. ltb i n) (λ i. f (a + i)) l' (omega (arith, length_front f a l l' e))
-      ∙ ap (patch in_part (λ i. f (a + (i - a)))) e ∙ patch_grow (λ i. ltb i a) in_part (λ i. ltb i (a + n)) f (λ i. f (a + (i - a))) l hit miss
+use Rattle.cores.specs.inner.Rects.{RectIn, in_rect, put_rect, put_rect_if}
 
 -- a row that is copied from the part of a list that begins at a shows the list's samples from there on
 pub row_from : (a w : ℕ) (from l row : List ℕ) → a + w ≤ length from → row ≡ front (λ i. get_or (mid_of a (length from - a) from) i 0) w l

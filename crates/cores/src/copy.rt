@@ -1,75 +1,62 @@
 // Rectangles of samples, copied from one list into another.
-ghost use Rattle.std.specs.Prelude.{◌≡◌, ◌+◌, ◌*◌, ◌≤◌, ltb, length, get_or};
+ghost use Rattle.std.specs.Prelude.{◌≡◌, ◌+◌, ◌*◌, ◌-◌, ◌<◌, ◌≤◌, ltb, length, get_or};
 ghost use Rattle.laws.specs.Patch.{patch};
-ghost use Rattle.cores.specs.inner.Rects.{Width, RectIn, put_rect};
+ghost use Rattle.cores.specs.inner.Rects.{RectIn, put_rect};
 
-// `height` rows of `width` samples: those from `first` on, `apart` apart, are put from `off` on, `stride` apart.
-pub(crate) fn copy_rect(
-    width: usize,
+use residual::reconstruct::Window;
+
+// The squares of a block: luma, Cb and Cr.
+pub(crate) const LUMA: Window = Window { off: 0, stride: 16 };
+
+pub(crate) const CB: Window = Window {
+    off: 256,
+    stride: 8,
+};
+
+pub(crate) const CR: Window = Window {
+    off: 320,
+    stride: 8,
+};
+
+// The window that begins so far before.
+pub(crate) fn before(window: Window, back: usize) -> Window
+    requires { back ≤ window.off }
+    ensures { (result.off ≡ window.off - back) × (result.stride ≡ window.stride) }
+{
+    Window {
+        off: window.off - back,
+        stride: window.stride,
+    }
+}
+
+// `height` rows of W samples, put from one list into another: the index places a row in both.
+pub(crate) fn copy_rect<const W: usize>(
     height: usize,
     from: &[u8],
-    first: usize,
-    apart: usize,
+    taken: Window,
     to: &mut [u8],
-    off: usize,
-    stride: usize,
+    put: Window,
 )
-    requires width { Width width × (width ≤ stride) }
-    requires rect_in { RectIn width height first apart (length from.now) × RectIn width height off stride (length to.old) }
-    ensures { to.new ≡ put_rect width height off stride (λ i j. get_or from.now (first + j * apart + i) 0) to.old }
+    requires width { (0 < W) × (W ≤ put.stride) }
+    requires rect_in { RectIn W height taken.off taken.stride (length from.now) × RectIn W height put.off put.stride (length to.old) }
+    ensures { to.new ≡ put_rect W height put.off put.stride (λ i j. get_or from.now (taken.off + j * taken.stride + i) 0) to.old }
 {
     for j in 0..height {
-        copy_row(
-            width,
-            &from[first + j * apart..],
-            &mut to[off + j * stride..],
+        copy_row::<W>(
+            &from[taken.off + j * taken.stride..],
+            &mut to[put.off + j * put.stride..],
         );
     }
 }
 
-// The first samples of a row: one, eight or sixteen.
-fn copy_row(width: usize, from: &[u8], to: &mut [u8])
-    requires { Width width × (width ≤ length from.now) × (width ≤ length to.old) }
-    ensures { to.new ≡ patch (λ i. ltb i width) (λ i. get_or from.now i 0) to.old }
+// The first W samples of a row. All are read before one is written: the compiled code then takes them side by side. By index, since `copy_from_slice` asks
+// at run time whether the two overlap, and takes twice as long.
+fn copy_row<const W: usize>(from: &[u8], to: &mut [u8])
+    requires { (W ≤ length from.now) × (W ≤ length to.old) }
+    ensures { to.new ≡ patch (λ i. ltb i W) (λ i. get_or from.now i 0) to.old }
 {
-    if width == 1 {
-        to[0] = from[0];
-        return;
+    let row = *from.first_chunk::<W>().unwrap();
+    for i in 0..W {
+        to[i] = row[i];
     }
-    if width == 8 {
-        copy_eight(from, to);
-        return;
-    }
-    copy_sixteen(from, to);
-}
-
-fn copy_sixteen(from: &[u8], to: &mut [u8])
-    requires { (16 ≤ length from.now) × (16 ≤ length to.old) }
-    ensures { to.new ≡ patch (λ i. ltb i 16) (λ i. get_or from.now i 0) to.old }
-{
-    copy_eight(from, to);
-    copy_eight(&from[8..], &mut to[8..]);
-}
-
-// All eight are read before one is written: the compiled code then takes them side by side.
-fn copy_eight(from: &[u8], to: &mut [u8])
-    requires { (8 ≤ length from.now) × (8 ≤ length to.old) }
-    ensures { to.new ≡ patch (λ i. ltb i 8) (λ i. get_or from.now i 0) to.old }
-{
-    let a = from[0];
-    let b = from[1];
-    let c = from[2];
-    let d = from[3];
-    let e = from[4];
-    let f = from[5];
-    let g = from[6];
-    let h = from[7];
-    to[0] = a;
-    to[1] = b;
-    to[2] = c;
-    to[3] = d;
-    to[4] = e;
-    to[5] = f;
-    to[6] = g;
-    to[7] = h;
 }

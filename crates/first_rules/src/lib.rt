@@ -3,61 +3,58 @@
 
 ghost use Rattle.std.specs.Prelude.{◌≡◌};
 ghost use Rattle.laws.specs.Answer.{answer};
+ghost use Rattle.macroblock.specs.Kinds.{record_in};
+ghost use Rattle.macroblock.specs.Rules.{lists_good};
 ghost use Rattle.macroblock.specs.declared.Record.{Record};
-ghost use Rattle.calls.specs.Rebuild.{call, lent, open_rules};
+ghost use Rattle.calls.specs.Rebuild.{call, lent, open_rules, first};
+ghost use Rattle.refusals.specs.Refusal.{number_of};
 
-use macroblock::Strides;
+use macroblock::{PlanesRef, RecordRef};
 use maps::done::is_done;
 use maps::progress::Progress;
 use maps::size::{Spot, place_ok, size_ok};
 use planes::room_ok;
+use refusals::Refusal;
 
 mod planes; // the memory that is lent
 
-// The refusals of a call before a record's modes are looked at, or 0: whatever the record is, where the lists that come with the call are as long as they
-// should be if `lists` says so.
+// Refuses a call by the rules before a record's modes are looked at: whatever the record is, where the lists that come with the call are as long as they
+// should be if `lists` says so. Where these are the record's own, these are the first rules of the whole call.
+#[tactic(auto, using(maps::proofs::Sizes::size_is), unfolding(calls::specs::Rebuild::first_rules))]
 pub fn refuse(
     spot: Spot,
-    luma: &[u8],
-    cb: &[u8],
-    cr: &[u8],
-    strides: Strides,
+    planes: PlanesRef,
     done: &[u8],
     slices: &[u16],
     progress: Progress,
     lists: bool,
-) -> u32
-    ensures { (m : Record) → result ≡ answer (open_rules (call spot strides slices.now m)
-        (lent luma.now cb.now cr.now done.now progress) lists) }
+) -> Result<(), Refusal>
+    ensures open { (m : Record) → number_of result ≡ answer (open_rules (call spot planes.entry.strides slices.now m)
+        (lent planes.entry.luma.now planes.entry.cb.now planes.entry.cr.now done.now progress) lists) }
+    ensures first { (m : Record) → lists_good m ≡ lists → number_of result ≡ first (call spot planes.entry.strides slices.now m)
+        (lent planes.entry.luma.now planes.entry.cb.now planes.entry.cr.now done.now progress) }
 {
     if !size_ok(spot.w, spot.h) {
-        return 1;
+        return Err(Refusal::Size);
     }
-    let columns = spot.w as usize;
-    let rows = spot.h as usize;
-    let room = room_ok(
-        columns,
-        rows,
-        luma.len(),
-        cb.len(),
-        cr.len(),
-        strides,
-        done.len(),
-        slices.len(),
-        progress.count,
-    );
-    if !room {
-        return 2;
+    let w = spot.w as usize;
+    let h = spot.h as usize;
+    if !room_ok(w, h, planes, done, slices, progress.count) || !lists {
+        return Err(Refusal::Room);
     }
-    if !lists {
-        return 2;
+    if !place_ok(spot) {
+        return Err(Refusal::Place);
     }
-    if !place_ok(spot.w, spot.h, spot.x, spot.y) {
-        return 3;
+    if is_done(done, (spot.y as usize) * w + (spot.x as usize)) {
+        return Err(Refusal::Done);
     }
-    let here = (spot.y as usize) * columns + (spot.x as usize);
-    if is_done(done, here) {
-        return 4;
-    }
-    0
+    Ok(())
+}
+
+// Whether a record's lists are as long as they should be.
+#[tactic(auto, unfolding(macroblock::specs::Rules::lists_good))]
+pub fn has_lists(rec: RecordRef) -> bool
+    ensures { result ≡ lists_good (record_in rec.entry) }
+{
+    rec.modes.len() == 16 && rec.numbers.len() == 384
 }

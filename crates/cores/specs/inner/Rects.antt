@@ -2,10 +2,6 @@
 use Rattle.std.specs.Prelude.{◌≡◌, Bool, cond, ◌&&◌, ◌⊎◌, List, ℕ, ◌+◌, ◌*◌, ◌-◌, ◌/◌, ◌%◌, ◌≤◌, ltb, leb}
 use Rattle.laws.specs.Patch.{patch}
 
--- a row has one sample, eight or sixteen
-abbrev pub Width : ℕ → Type 0
-Width n = (n ≡ 1) ⊎ ((n ≡ 8) ⊎ (n ≡ 16))
-
 -- a list of n samples has `height` rows of `width` samples from `off` on, `stride` apart
 pub record RectIn (width height off stride n : ℕ) : Type 0 where
   pub inside : off + (height - 1) * stride + width ≤ n

@@ -1,35 +1,28 @@
 -- `cores::compute::rebuild_aside` meets its contract: the small planes show the same around the macroblock, so that the macroblock call leaves there what it
 -- leaves here. Assumes nothing.
-use mathlib.Core.Path.{sym, ◌∙◌}
+use mathlib.Core.Path.{◌≡◌, ◌∙◌}
 use native.Mathlib.Omega.{arith}
-use Rattle.laws.proofs.Answers.{put}
+use Rattle.std.proofs.Common.{rules}
+use Rattle.refusals.specs.Refusal.{number_of}
 use Rattle.maps.specs.Neighbours.{marks_of}
-use Rattle.macroblock.specs.Kinds.{record_of}
+use Rattle.macroblock.specs.Kinds.{record_in}
 use Rattle.calls.specs.Planes.{three}
-use Rattle.cores.proofs.Aside.{there_is_room, each, cut_out}
+use Rattle.cores.proofs.Aside.{there_is_room, each, cut_of}
 use Rattle.cores.proofs.compute.rebuild_aside.Goals as goal
 
-pub returns-then-answer-ne0-clause-value : goal.returns-then-answer-ne0-clause-value
-returns-then-answer-ne0-clause-value c =
+pub returns-in_err-rebuild-clause-value : goal.returns-in_err-rebuild-clause-value
+returns-in_err-rebuild-clause-value c =
     let a = c.args in
-    c.rebuild-answer.ensures.value
-    ∙ there_is_room (marks_of a.marks) a.ready (record_of a.kind a.modes.now a.chroma_mode a.numbers.now) (omega arith) (omega arith) (omega arith)
-
-pub returns-clause-value : goal.returns-clause-value
-returns-clause-value c =
-    let a = c.args in
-    sym c.if-answer-ne0.false ∙ c.rebuild-answer.ensures.value
-    ∙ there_is_room (marks_of a.marks) a.ready (record_of a.kind a.modes.now a.chroma_mode a.numbers.now) (omega arith) (omega arith) (omega arith)
+    let r : number_of c.from_residual.result ≡ number_of c.rebuild.result = search rules in
+    r ∙ c.rebuild.ensures.value ∙ there_is_room (marks_of a.marks) a.ready (record_in a.rec) (omega arith) (omega arith) (omega arith)
 
 pub returns-clause-block_after : goal.returns-clause-block_after
 returns-clause-block_after c =
     let a = c.args in
-    let z = c.if-answer-ne0.false in
-    let left = c.rebuild-answer in
-    cut_out a.strides a.x a.y (marks_of a.marks) (three a.luma.now a.cb.now a.cr.now) c.requires.marks_value
-    (record_of a.kind a.modes.now a.chroma_mode a.numbers.now)
+    let p = a.planes in
+    cut_of p.strides a.x a.y (marks_of a.marks) (three p.luma.now p.cb.now p.cr.now) c.requires.marks_value (record_in a.rec)
     (three c.bring_around.new.small c.bring_around-2.new.small c.bring_around-3.new.small)
     (each _ (omega arith) (omega arith) (omega arith)) (each _ c.bring_around.ensures c.bring_around-2.ensures c.bring_around-3.ensures)
-    (three left.new.luma left.new.cb left.new.cr)
-    (each _ (left.ensures.luma_after ∙ put _ _ z) (left.ensures.cb_after ∙ put _ _ z) (left.ensures.cr_after ∙ put _ _ z))
-    a.block.now _ _ _ c.requires.block_len c.copy_rect.ensures c.copy_rect-2.ensures c.copy_rect-3.ensures
+    a.block.now _ _ _ c.requires.block_len (rw (c.middle.ensures.0, c.middle.ensures.1) at c.copy_rect.ensures)
+    (rw (c.middle-2.ensures.0, c.middle-2.ensures.1) at c.copy_rect-2.ensures) (rw (c.middle-3.ensures.0, c.middle-3.ensures.1) at c.copy_rect-3.ensures)
+    (search rules) (search rules) (search rules)

@@ -3,4 +3,4 @@ use Rattle.cores.proofs.Rects.{Rows}
 use Rattle.cores.proofs.copy.copy_rect.Given as goal
 
 abbrev pub invariant-loop-j : goal.invariant-loop-j
-invariant-loop-j l = Rows l.width l.height l.first l.apart l.off l.stride l.from l.initial.to l.j l.to
+invariant-loop-j g l = Rows g.row.W l.height l.taken.off l.taken.stride l.put.off l.put.stride l.from l.initial.to l.j l.to
