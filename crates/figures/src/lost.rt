@@ -2,9 +2,7 @@
 // the sound picture each time.
 ghost use Rattle.std.specs.Prelude.{◌<◌};
 
-use super::shuffled::{
-    FIRST, GARBLED, RASTER, SHUFFLED, UNKNOWN, one_more, rebuild_all, tell_answers,
-};
+use super::shuffled::{Picture, RASTER, SHUFFLED, one_more, rebuild_all, tell_answers};
 use super::tell::tell;
 use std::io;
 
@@ -18,19 +16,50 @@ pub(crate) fn lose(rt: &impl Print) -> io::Result<()> {
     let mut done = [1u8; 6];
     rt.write_all(b"two slices, the second one sound\n")?;
     let n = rebuild_all(
-        rt, FIRST, RASTER, 36, &mut luma, &mut cb, &mut cr, &mut done,
+        rt,
+        Picture::First,
+        RASTER,
+        36,
+        &mut luma,
+        &mut cb,
+        &mut cr,
+        &mut done,
     )?;
     tell_answers(rt, n)?;
-    lost_as(rt, b"garbled\n", GARBLED, SHUFFLED, &luma, &cb, &cr)?;
-    lost_as(rt, b"refused\n", UNKNOWN, SHUFFLED, &luma, &cb, &cr)?;
-    lost_as(rt, b"abandoned\n", FIRST, ABANDONED, &luma, &cb, &cr)
+    lost_as(
+        rt,
+        b"garbled\n",
+        Picture::Garbled,
+        SHUFFLED,
+        &luma,
+        &cb,
+        &cr,
+    )?;
+    lost_as(
+        rt,
+        b"refused\n",
+        Picture::Unknown,
+        SHUFFLED,
+        &luma,
+        &cb,
+        &cr,
+    )?;
+    lost_as(
+        rt,
+        b"abandoned\n",
+        Picture::First,
+        ABANDONED,
+        &luma,
+        &cb,
+        &cr,
+    )
 }
 
 // A run with the second slice lost, and what differs from the sound picture.
 fn lost_as(
     rt: &impl Print,
     what: &[u8],
-    picture: u32,
+    picture: Picture,
     order: [u32; 6],
     luma: &[u8],
     cb: &[u8],
@@ -73,29 +102,11 @@ fn differing(p: &[u8], q: &[u8], from: usize, to: usize, height: usize, stride: 
     requires { 0 < stride }
 {
     let mut n = 0;
-    let mut i = 0;
-    while i < p.len() {
-        if i < q.len() {
-            if inside(i, from, to, height, stride) {
-                if p[i] != q[i] {
-                    n = one_more(n);
-                }
-            }
+    for (i, (a, b)) in p.iter().zip(q).enumerate() {
+        let column = i % stride;
+        if from <= column && column < to && i / stride < height && *a != *b {
+            n = one_more(n);
         }
-        i += 1;
     }
     n
-}
-
-// Whether place i lies in these columns of the picture.
-fn inside(i: usize, from: usize, to: usize, height: usize, stride: usize) -> bool
-    requires { 0 < stride }
-{
-    if i % stride < from {
-        return false;
-    }
-    if i % stride >= to {
-        return false;
-    }
-    i / stride < height
 }

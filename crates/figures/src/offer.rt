@@ -1,21 +1,29 @@
-// A macroblock offered to a picture: the record is taken apart here, for the call takes its parts.
+// A macroblock offered to a picture: the planes and the record are taken apart here, for the call takes their parts.
 use jiwarbend::pictures::jiwarbend_rebuild;
-use macroblock::{Record, Strides};
+use macroblock::{Planes, Record};
 use maps::size::Spot;
+use refusals::Refusal;
 
 pub(crate) fn offer(
     spot: Spot,
-    luma: &mut [u8],
-    cb: &mut [u8],
-    cr: &mut [u8],
-    strides: Strides,
+    planes: Planes,
     done: &mut [u8],
     slices: &[u16],
     progress: &mut [u32; 2],
     record: Record,
-) -> u32 {
-    let modes = record.modes;
-    let numbers = record.numbers;
+) -> Result<(), Refusal> {
+    let Planes {
+        luma,
+        cb,
+        cr,
+        strides,
+    } = planes;
+    let Record {
+        kind,
+        modes,
+        chroma_mode,
+        numbers,
+    } = record;
     jiwarbend_rebuild(
         spot.w,
         spot.h,
@@ -30,9 +38,9 @@ pub(crate) fn offer(
         done,
         slices,
         progress,
-        record.kind,
+        kind,
         &modes,
-        record.chroma_mode,
+        chroma_mode,
         &numbers,
     )
 }

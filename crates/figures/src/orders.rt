@@ -1,9 +1,9 @@
 // Checking orders: 3 by 2 macroblocks in one slice, slices that do not wait for one another, and the limits of the two calls.
-use super::tell::tell;
+use super::tell::{answer, tell};
 use jiwarbend::schedule::{jiwarbend_check_order, jiwarbend_out_of_place};
 use std::io;
 
-// What both calls say of an order. The verdict and the place are 77 before them, and after calls that are refused.
+// What both calls say of an order. In place of the verdict and of the place stands 77 after calls that are refused.
 fn check(
     rt: &impl Print,
     what: &[u8],
@@ -12,20 +12,12 @@ fn check(
     slices: &[u16],
     order: &[u32],
 ) -> io::Result<()> {
-    let mut verdict = 77u32;
-    let mut place = 77u32;
-    tell(
-        rt,
-        what,
-        jiwarbend_check_order(w, h, slices, order, &mut verdict),
-    )?;
-    tell(rt, b"  verdict", verdict)?;
-    tell(
-        rt,
-        b"  out_of_place",
-        jiwarbend_out_of_place(w, h, slices, order, &mut place),
-    )?;
-    tell(rt, b"  place", place)
+    let verdict = jiwarbend_check_order(w, h, slices, order);
+    let place = jiwarbend_out_of_place(w, h, slices, order);
+    answer(rt, what, verdict)?;
+    tell(rt, b"  verdict", verdict.map_or(77, u32::from))?;
+    answer(rt, b"  out_of_place", place)?;
+    tell(rt, b"  place", place.unwrap_or(77))
 }
 
 // An order of 3 by 2 macroblocks in one slice.

@@ -6,8 +6,9 @@ ghost use Rattle.std.specs.Prelude.{◌<◌, ◌≤◌};
 use super::offer::offer;
 use super::tell::tell;
 use jiwarbend::pictures::jiwarbend_start;
-use macroblock::{Record, Strides};
+use macroblock::{Planes, Record, Strides};
 use maps::size::Spot;
+use refusals::Refusal;
 use std::io;
 
 const SLICES: [u16; 6] = [0, 0, 1, 0, 0, 1];
@@ -20,11 +21,14 @@ pub(crate) const SHUFFLED: [u32; 6] = [4, 2, 5, 3, 1, 0];
 const DOWNWARDS: [u32; 6] = [0, 1, 4, 3, 2, 5];
 
 // By address: the kind, the mode of a 16x16 macroblock, and the chroma mode.
-const KIND: [u8; 6] = [0, 1, 0, 2, 2, 1];
-
-const WHOLE: [u8; 6] = [2, 2, 2, 0, 3, 2];
-
-const CHROMA: [u8; 6] = [0, 1, 0, 2, 3, 2];
+const MACROBLOCKS: [(u8, u8, u8); 6] = [
+    (0, 2, 0),
+    (1, 2, 1),
+    (0, 2, 0),
+    (2, 0, 2),
+    (2, 3, 3),
+    (1, 2, 2),
+];
 
 // Whether block k of sixteen has blocks of its own macroblock above it and to its left, so that it may use every mode.
 const INNER: [bool; 16] = [
@@ -34,32 +38,17 @@ const INNER: [bool; 16] = [
 
 // The mode of block k of macroblock a.
 fn mode_of(a: usize, k: usize) -> u8 {
-    if a >= 6 {
+    if a >= 6 || k >= 16 {
         return 0;
     }
-    if k >= 16 {
-        return 0;
+    let (kind, whole, _) = MACROBLOCKS[a];
+    match (kind, k) {
+        (0, _) if INNER[k] => ((5 * k + a) % 9) as u8,
+        (0, _) | (1, 0..=2) => 2,
+        (1, 3) => (a + 3) as u8,
+        (2, 0) => whole,
+        _ => 0,
     }
-    let kind = KIND[a];
-    if kind == 0 {
-        if INNER[k] {
-            return ((5 * k + a) % 9) as u8;
-        }
-        return 2;
-    }
-    if kind == 1 {
-        if k == 3 {
-            return (a + 3) as u8;
-        }
-        if k < 3 {
-            return 2;
-        }
-        return 0;
-    }
-    if k == 0 {
-        return WHOLE[a];
-    }
-    0
 }
 
 // Number i of macroblock a: small ones of either sign, and a larger first coefficient in each block.
@@ -76,34 +65,27 @@ fn number_of(a: usize, i: usize) -> i32 {
 
 fn modes_of(a: usize) -> [u8; 16] {
     let mut modes = [0u8; 16];
-    for k in 0..16 {
-        modes[k] = mode_of(a, k);
+    for (k, mode) in modes.iter_mut().enumerate() {
+        *mode = mode_of(a, k);
     }
     modes
 }
 
 fn numbers_of(a: usize) -> [i32; 384] {
     let mut numbers = [0i32; 384];
-    for i in 0..384 {
-        numbers[i] = number_of(a, i);
+    for (i, number) in numbers.iter_mut().enumerate() {
+        *number = number_of(a, i);
     }
     numbers
 }
 
 fn record_of(a: usize) -> Record {
-    let modes = modes_of(a);
-    let numbers = numbers_of(a);
-    let mut kind = 2;
-    let mut chroma_mode = 0;
-    if a < 6 {
-        kind = KIND[a];
-        chroma_mode = CHROMA[a];
-    }
+    let (kind, _, chroma_mode) = MACROBLOCKS.get(a).copied().unwrap_or((2, 0, 0));
     Record {
         kind,
-        modes,
+        modes: modes_of(a),
         chroma_mode,
-        numbers,
+        numbers: numbers_of(a),
     }
 }
 
@@ -115,63 +97,53 @@ fn vertical_record_of(a: usize) -> Record {
         modes[0] = 2;
         chroma_mode = 0;
     }
-    let numbers = numbers_of(a);
     Record {
         kind: 2,
         modes,
         chroma_mode,
-        numbers,
+        numbers: numbers_of(a),
     }
 }
 
 // A record of a kind that there is not.
 fn unknown_record_of(a: usize) -> Record {
-    let modes = modes_of(a);
-    let numbers = numbers_of(a);
     Record {
         kind: 3,
-        modes,
+        modes: modes_of(a),
         chroma_mode: 0,
-        numbers,
+        numbers: numbers_of(a),
     }
 }
 
 // The pictures: the first and the second, and the first with other records for its second slice, which is its last column: those of the second picture,
 // or of an unknown kind.
-pub(crate) const FIRST: u32 = 0;
-
-const SECOND: u32 = 1;
-
-pub(crate) const GARBLED: u32 = 2;
-
-pub(crate) const UNKNOWN: u32 = 3;
-
-// The slice map of a picture, and the record that comes for macroblock a.
-fn slices_of(picture: u32) -> [u16; 6] {
-    if picture == SECOND {
-        return [0u16; 6];
-    }
-    SLICES
+#[derive(Clone, Copy, PartialEq, Eq)]
+pub(crate) enum Picture {
+    First,
+    Second,
+    Garbled,
+    Unknown,
 }
 
-fn offered(picture: u32, a: usize) -> Record {
-    if picture == SECOND {
-        return vertical_record_of(a);
+// The slice map of a picture, and the record that comes for macroblock a.
+fn slices_of(picture: Picture) -> [u16; 6] {
+    match picture {
+        Picture::Second => [0u16; 6],
+        _ => SLICES,
     }
-    if a % 3 < 2 {
-        return record_of(a);
+}
+
+fn offered(picture: Picture, a: usize) -> Record {
+    match picture {
+        Picture::Second => vertical_record_of(a),
+        Picture::Garbled if a % 3 == 2 => vertical_record_of(a),
+        Picture::Unknown if a % 3 == 2 => unknown_record_of(a),
+        _ => record_of(a),
     }
-    if picture == GARBLED {
-        return vertical_record_of(a);
-    }
-    if picture == UNKNOWN {
-        return unknown_record_of(a);
-    }
-    record_of(a)
 }
 
 // How often each answer was given.
-#[derive(Clone, Copy)]
+#[derive(Clone, Copy, Default)]
 pub(crate) struct Answers {
     accepted: u32,
     done: u32,
@@ -179,28 +151,26 @@ pub(crate) struct Answers {
     other: u32,
 }
 
-pub(crate) fn one_more(n: u32) -> u32 {
-    std::num::wrapping_add_u32(n, 1)
+impl Answers {
+    fn count(&mut self, answer: Result<(), Refusal>) {
+        let n = match answer {
+            Ok(()) => &mut self.accepted,
+            Err(Refusal::Done) => &mut self.done,
+            Err(Refusal::NotReady) => &mut self.not_ready,
+            Err(_) => &mut self.other,
+        };
+        *n = one_more(*n);
+    }
 }
 
-fn count(n: Answers, answer: u32) -> Answers {
-    let mut m = n;
-    if answer == 0 {
-        m.accepted = one_more(n.accepted);
-    } else if answer == 4 {
-        m.done = one_more(n.done);
-    } else if answer == 5 {
-        m.not_ready = one_more(n.not_ready);
-    } else {
-        m.other = one_more(n.other);
-    }
-    m
+pub(crate) fn one_more(n: u32) -> u32 {
+    n.wrapping_add(1)
 }
 
 // The answers to so many offers of one of the pictures in an order that comes round, each macroblock with its own record.
 pub(crate) fn rebuild_all(
     rt: &impl Print,
-    picture: u32,
+    picture: Picture,
     order: [u32; 6],
     offers: usize,
     luma: &mut [u8],
@@ -210,40 +180,30 @@ pub(crate) fn rebuild_all(
 ) -> io::Result<Answers>
     requires { offers ≤ 36 }
 {
-    let mut n = Answers {
-        accepted: 0,
-        done: 0,
-        not_ready: 0,
-        other: 0,
-    };
+    let mut n = Answers::default();
     let mut progress = [9u32; 2];
-    jiwarbend_start(3, 2, done, &mut progress);
+    let _ = jiwarbend_start(3, 2, done, &mut progress);
     let strides = Strides {
         luma: 52,
         cb: 27,
         cr: 27,
     };
     let slices = slices_of(picture);
-    for i in 0..offers {
-        let a = order[i % 6];
+    for a in order.into_iter().cycle().take(offers) {
+        let planes = Planes {
+            luma,
+            cb,
+            cr,
+            strides,
+        };
         let spot = Spot {
             w: 3,
             h: 2,
             x: a % 3,
             y: a / 3,
         };
-        let r = offer(
-            spot,
-            luma,
-            cb,
-            cr,
-            strides,
-            done,
-            &slices,
-            &mut progress,
-            offered(picture, a as usize),
-        );
-        n = count(n, r);
+        let record = offered(picture, a as usize);
+        n.count(offer(spot, planes, done, &slices, &mut progress, record));
     }
     tell(rt, b"  counted", progress[0])?;
     Ok(n)
@@ -257,7 +217,7 @@ pub(crate) fn tell_answers(rt: &impl Print, n: Answers) -> io::Result<()> {
 }
 
 // The bytes of a picture in which two planes differ, and those of the padding in which one of them is not what it was before.
-#[derive(Drop)]
+#[derive(Default, Drop)]
 struct Differing {
     samples: u32,
     padding: u32,
@@ -274,37 +234,22 @@ fn compared(
 ) -> Differing
     requires { 0 < stride }
 {
-    let mut d = Differing {
-        samples: 0,
-        padding: 0,
-    };
-    let mut i = 0;
-    while i < p.len() {
-        if i < q.len() {
-            if outside(i, width, height, stride) {
-                if p[i] != was_p {
-                    d.padding = one_more(d.padding);
-                }
-                if q[i] != was_q {
-                    d.padding = one_more(d.padding);
-                }
-            } else if p[i] != q[i] {
+    let mut d = Differing::default();
+    for (i, (a, b)) in p.iter().zip(q).enumerate() {
+        if i % stride < width && i / stride < height {
+            if *a != *b {
                 d.samples = one_more(d.samples);
             }
+        } else {
+            if *a != was_p {
+                d.padding = one_more(d.padding);
+            }
+            if *b != was_q {
+                d.padding = one_more(d.padding);
+            }
         }
-        i += 1;
     }
     d
-}
-
-// Whether place i lies outside the picture.
-fn outside(i: usize, width: usize, height: usize, stride: usize) -> bool
-    requires { 0 < stride }
-{
-    if i % stride >= width {
-        return true;
-    }
-    i / stride >= height
 }
 
 fn tell_differing(rt: &impl Print, d: Differing) -> io::Result<()> {
@@ -315,13 +260,13 @@ fn tell_differing(rt: &impl Print, d: Differing) -> io::Result<()> {
 // The first picture, and the second.
 pub(crate) fn compare(rt: &impl Print) -> io::Result<()> {
     rt.write_all(b"two slices, six rounds\n")?;
-    both_orders(rt, FIRST, SHUFFLED, 36)?;
+    both_orders(rt, Picture::First, SHUFFLED, 36)?;
     rt.write_all(b"one slice, vertical macroblocks below DC, one round\n")?;
-    both_orders(rt, SECOND, DOWNWARDS, 6)
+    both_orders(rt, Picture::Second, DOWNWARDS, 6)
 }
 
 // A picture in raster order, and then in another one.
-fn both_orders(rt: &impl Print, picture: u32, order: [u32; 6], offers: usize) -> io::Result<()>
+fn both_orders(rt: &impl Print, picture: Picture, order: [u32; 6], offers: usize) -> io::Result<()>
     requires { offers ≤ 36 }
 {
     let mut luma = [11u8; 1670];
@@ -339,7 +284,7 @@ fn both_orders(rt: &impl Print, picture: u32, order: [u32; 6], offers: usize) ->
 // The other run, and what differs.
 fn shuffle(
     rt: &impl Print,
-    picture: u32,
+    picture: Picture,
     order: [u32; 6],
     offers: usize,
     luma: &[u8],

@@ -1,17 +1,18 @@
 // The turn list: a picture of 3 by 2 macroblocks in one slice turn by turn, how many turns pictures take, and the limits of the three calls.
-use super::tell::tell;
+ghost use Rattle.std.specs.Prelude.{◌≤◌};
+
+use super::tell::{answer, tell};
 use jiwarbend::schedule::{jiwarbend_count_rows, jiwarbend_turn, jiwarbend_turns};
+use refusals::Refusal;
 use std::io;
 
 // Six turns from a cleared map, each taking its whole list.
 pub(crate) fn whole_picture(rt: &impl Print) -> io::Result<()> {
     rt.write_all(b"turn by turn, 3 by 2 in one slice: how many, and the list's two places\n")?;
-    let first = next(rt, [0u8; 6])?;
-    let second = next(rt, first)?;
-    let third = next(rt, second)?;
-    let fourth = next(rt, third)?;
-    let fifth = next(rt, fourth)?;
-    next(rt, fifth)?;
+    let mut done = [0u8; 6];
+    for _ in 0..6 {
+        done = next(rt, done)?;
+    }
     Ok(())
 }
 
@@ -19,18 +20,14 @@ pub(crate) fn whole_picture(rt: &impl Print) -> io::Result<()> {
 fn next(rt: &impl Print, done: [u8; 6]) -> io::Result<[u8; 6]> {
     let mut rows = [0u32; 2];
     let mut list = [99u32; 2];
-    let mut many = 0u32;
-    tell(
+    answer(
         rt,
         b"count_rows",
         jiwarbend_count_rows(3, 2, &done, &mut rows),
     )?;
-    tell(
-        rt,
-        b"turn",
-        jiwarbend_turn(3, 2, &done, &[0u16; 6], &rows, &mut list, &mut many),
-    )?;
-    tell(rt, b"  macroblocks", many)?;
+    let many = jiwarbend_turn(3, 2, &done, &[0u16; 6], &rows, &mut list);
+    answer(rt, b"turn", many)?;
+    tell(rt, b"  macroblocks", many.unwrap_or(0))?;
     tell(rt, b"  first place", list[0])?;
     tell(rt, b"  second place", list[1])?;
     Ok(mark(mark(done, list[0]), list[1]))
@@ -44,95 +41,69 @@ fn mark(done: [u8; 6], address: u32) -> [u8; 6] {
     after
 }
 
-// Counting 8160, 6 and 5 bytes of a done map.
-fn count_8160(w: u32, h: u32) -> u32 {
-    let mut rows = [7u32; 68];
-    jiwarbend_count_rows(w, h, &[1u8; 8160], &mut rows)
-}
-
-fn count_6(w: u32, h: u32) -> u32 {
-    let mut rows = [7u32; 2];
-    jiwarbend_count_rows(w, h, &[1u8; 6], &mut rows)
-}
-
-fn count_5(w: u32, h: u32) -> u32 {
-    let mut rows = [7u32; 2];
-    jiwarbend_count_rows(w, h, &[1u8; 5], &mut rows)
+// Counting N bytes of a done map in so many rows.
+fn count<const N: usize, const ROWS: usize>(w: u32, h: u32) -> Result<(), Refusal>
+    requires { (N ≤ 8160) × (ROWS ≤ 68) }
+{
+    jiwarbend_count_rows(w, h, &[1u8; N], &mut [7u32; ROWS])
 }
 
 pub(crate) fn counts(rt: &impl Print) -> io::Result<()> {
-    tell(
+    answer(
         rt,
         b"count_rows, 120 by 68, 8160 bytes",
-        count_8160(120, 68),
+        count::<8160, 68>(120, 68),
     )?;
-    tell(rt, b"count_rows, 121 by 68", count_8160(121, 68))?;
-    tell(rt, b"count_rows, 120 by 69", count_8160(120, 69))?;
-    tell(rt, b"count_rows, 3 by 2, 6 bytes", count_6(3, 2))?;
-    tell(rt, b"count_rows, 3 by 2, 5 bytes", count_5(3, 2))?;
-    tell(
+    answer(rt, b"count_rows, 121 by 68", count::<8160, 68>(121, 68))?;
+    answer(rt, b"count_rows, 120 by 69", count::<8160, 68>(120, 69))?;
+    answer(rt, b"count_rows, 3 by 2, 6 bytes", count::<6, 2>(3, 2))?;
+    answer(rt, b"count_rows, 3 by 2, 5 bytes", count::<5, 2>(3, 2))?;
+    answer(
         rt,
         b"count_rows, 2 by 3, 6 bytes and two counts",
-        count_6(2, 3),
+        count::<6, 2>(2, 3),
     )
 }
 
 // The first row is done but for its last macroblock. The second is done up to its second one, whose byte is 2: that is not done.
 const HALF: [u8; 6] = [1, 1, 0, 1, 2, 1];
 
-// A turn of that map with these counts, or with lists of other lengths.
-fn half(rows: [u32; 2]) -> u32 {
-    let mut list = [99u32; 2];
-    let mut many = 77u32;
-    jiwarbend_turn(3, 2, &HALF, &[0u16; 6], &rows, &mut list, &mut many)
+// A turn of that map with a slice map of so many entries, with these counts and into this list.
+fn half(slices: &[u16], rows: &[u32], list: &mut [u32]) -> Result<u32, Refusal> {
+    jiwarbend_turn(3, 2, &HALF, slices, rows, list)
 }
 
-fn half_slices() -> u32 {
-    let mut list = [99u32; 2];
-    let mut many = 77u32;
-    jiwarbend_turn(3, 2, &HALF, &[0u16; 5], &[2u32, 1], &mut list, &mut many)
-}
-
-fn half_rows() -> u32 {
-    let mut list = [99u32; 2];
-    let mut many = 77u32;
-    jiwarbend_turn(3, 2, &HALF, &[0u16; 6], &[2u32, 1, 0], &mut list, &mut many)
-}
-
-fn half_list() -> u32 {
-    let mut list = [99u32; 3];
-    let mut many = 77u32;
-    jiwarbend_turn(3, 2, &HALF, &[0u16; 6], &[2u32, 1], &mut list, &mut many)
-}
-
-// What is left of the number and of the list by a refused turn.
+// What is left of the list by a refused turn, and in place of the number.
 fn refused(rt: &impl Print) -> io::Result<()> {
     let mut list = [99u32; 2];
-    let mut many = 77u32;
-    tell(
-        rt,
-        b"turn, a count ahead",
-        jiwarbend_turn(3, 2, &HALF, &[0u16; 6], &[2u32, 2], &mut list, &mut many),
-    )?;
-    tell(rt, b"  macroblocks", many)?;
+    let many = half(&[0u16; 6], &[2u32, 2], &mut list);
+    answer(rt, b"turn, a count ahead", many)?;
+    tell(rt, b"  macroblocks", many.unwrap_or(77))?;
     tell(rt, b"  first place", list[0])?;
     tell(rt, b"  second place", list[1])
 }
 
 pub(crate) fn turns(rt: &impl Print) -> io::Result<()> {
-    tell(rt, b"turn, 3 by 2, counts 2 and 1", half([2, 1]))?;
-    tell(rt, b"turn, a count behind", half([1, 1]))?;
+    let one = [0u16; 6];
+    let mut list = [99u32; 2];
+    let told = half(&one, &[2u32, 1], &mut list);
+    answer(rt, b"turn, 3 by 2, counts 2 and 1", told)?;
+    let behind = half(&one, &[1u32, 1], &mut list);
+    answer(rt, b"turn, a count behind", behind)?;
     refused(rt)?;
-    tell(rt, b"turn, a slice map of 5", half_slices())?;
-    tell(rt, b"turn, three counts", half_rows())?;
-    tell(rt, b"turn, a list of three places", half_list())
+    let five = half(&[0u16; 5], &[2u32, 1], &mut list);
+    answer(rt, b"turn, a slice map of 5", five)?;
+    let three = half(&one, &[2u32, 1, 0], &mut list);
+    answer(rt, b"turn, three counts", three)?;
+    let long = half(&one, &[2u32, 1], &mut [99u32; 3]);
+    answer(rt, b"turn, a list of three places", long)
 }
 
-// How many turns a picture with this slice map takes. The number is 77 before the call, and after one that is refused.
+// How many turns a picture with this slice map takes, and 77 in place of the number after a call that is refused.
 fn how_many(rt: &impl Print, what: &[u8], w: u32, h: u32, slices: &[u16]) -> io::Result<()> {
-    let mut turns = 77u32;
-    tell(rt, what, jiwarbend_turns(w, h, slices, &mut turns))?;
-    tell(rt, b"  turns", turns)
+    let turns = jiwarbend_turns(w, h, slices);
+    answer(rt, what, turns)?;
+    tell(rt, b"  turns", turns.unwrap_or(77))
 }
 
 // The same of a slice map of 8160 in one slice.

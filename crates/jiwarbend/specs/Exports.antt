@@ -1,7 +1,5 @@
 -- How C's numbers and lists stand for the values of the routines.
-use Rattle.std.specs.Prelude.{Bool, true, false, List, ℕ, eqb, length}
-use Rattle.basics.specs.declared.nnz.Neighbor.{Neighbor}
-use Rattle.basics.specs.declared.nnz.Neighbor.TheVariants.{Absent, Count}
+use Rattle.std.specs.Prelude.{Bool, true, false, List, ℕ, eqb, length, Option, Some, None}
 
 -- a list has the length that a call asks for
 infix 80 ◌has◌
@@ -9,6 +7,6 @@ abbrev pub ◌has◌ : {A : Type 0} → List A → ℕ → Bool
 ◌has◌ l n = eqb (length l) n
 
 -- a number of coefficients, or none, by its mark
-abbrev pub neighbor : Bool → ℕ → Neighbor
-neighbor true n = Count n
-neighbor false n = Absent
+abbrev pub neighbor : Bool → ℕ → Option ℕ
+neighbor true n = Some n
+neighbor false n = None

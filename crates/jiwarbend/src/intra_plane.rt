@@ -2,10 +2,13 @@
 ghost use Rattle.std.specs.Prelude.{◌≡◌, true, ◌&&◌, ◌++◌, ◌-◌, leb, length, drop};
 ghost use Rattle.laws.specs.Answer.{written};
 ghost use Rattle.laws.specs.Table.{block_of};
+ghost use Rattle.refusals.specs.Refusal.{number_of};
 ghost use Rattle.samples.specs.Intra16x16.{pred_l};
 ghost use Rattle.samples.specs.IntraChroma.{pred_c};
 ghost use Rattle.samples.specs.IntraPlane.{plane_answer};
 ghost use Rattle.basics.specs.Near.{near_in};
+
+use refusals::Refusal;
 
 pub fn jiwarbend_i16x16_luma_pred(
     mode: u8,
@@ -13,9 +16,9 @@ pub fn jiwarbend_i16x16_luma_pred(
     rec: &[u8],
     base: usize,
     stride: usize,
-) -> u32
-    ensures value { result ≡ plane_answer 16 (leb mode 3) (length pred.old) (length rec.now) base stride }
-    ensures pred_after { pred.new ≡ written result pred.old
+) -> Result<(), Refusal>
+    ensures value { number_of result ≡ plane_answer 16 (leb mode 3) (length pred.old) (length rec.now) base stride }
+    ensures pred_after { pred.new ≡ written (number_of result) pred.old
         (block_of 16 (pred_l mode true true (near_in rec.now (base - stride - 1) stride)) ++ drop 256 pred.old) }
 {
     samples::intra_plane::i16x16_luma_pred(mode, pred, rec, base, stride)
@@ -27,9 +30,9 @@ pub fn jiwarbend_chroma8x8_plane_pred(
     rec: &[u8],
     base: usize,
     stride: usize,
-) -> u32
-    ensures value { result ≡ plane_answer 8 (leb 2 mode && leb mode 3) (length pred.old) (length rec.now) base stride }
-    ensures pred_after { pred.new ≡ written result pred.old
+) -> Result<(), Refusal>
+    ensures value { number_of result ≡ plane_answer 8 (leb 2 mode && leb mode 3) (length pred.old) (length rec.now) base stride }
+    ensures pred_after { pred.new ≡ written (number_of result) pred.old
         (block_of 8 (pred_c mode true true (near_in rec.now (base - stride - 1) stride)) ++ drop 64 pred.old) }
 {
     samples::intra_plane::chroma8x8_pred(mode, pred, rec, base, stride)

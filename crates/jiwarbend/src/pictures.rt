@@ -1,6 +1,7 @@
-// Whole pictures, macroblock by macroblock. C's progress record is its two numbers, one after the other; it is stored only where the answer is 0.
+// Whole pictures, macroblock by macroblock. C's progress record is its two numbers, one after the other; it is stored only where the call is not refused.
 ghost use Rattle.std.specs.Prelude.{◌≡◌, length, replicate};
 ghost use Rattle.laws.specs.Answer.{written};
+ghost use Rattle.refusals.specs.Refusal.{number_of};
 ghost use Rattle.macroblock.specs.Kinds.{record_of};
 ghost use Rattle.maps.specs.Progress.{begun, progress_of, start_answer};
 ghost use Rattle.calls.specs.AnyOrder.{AnyOrder};
@@ -8,27 +9,23 @@ ghost use Rattle.calls.specs.Rebuild.{call, lent, Rebuilds};
 ghost use Rattle.calls.specs.Run.{Picture};
 ghost use Rattle.slices.specs.SlicesApart.{SlicesApart};
 
-use macroblock::Strides;
-use maps::progress::Progress;
+use macroblock::{Planes, RecordRef, Strides};
+use maps::progress::start_core;
 use maps::size::Spot;
+use refusals::Refusal;
 
-pub fn jiwarbend_start(w: u32, h: u32, done: &mut [u8], progress: &mut [u32; 2]) -> u32
-    ensures value { result ≡ start_answer w h (length done.old) }
-    ensures progress_after { progress_of progress.new ≡ written result (progress_of progress.old) begun }
-    ensures done_after { done.new ≡ written result done.old (replicate (length done.old) 0) }
+pub fn jiwarbend_start(
+    w: u32,
+    h: u32,
+    done: &mut [u8],
+    progress: &mut [u32; 2],
+) -> Result<(), Refusal>
+    ensures value { number_of result ≡ start_answer w h (length done.old) }
+    ensures progress_after { progress_of progress.new ≡ written (number_of result) (progress_of progress.old) begun }
+    ensures done_after { done.new ≡ written (number_of result) done.old (replicate (length done.old) 0) }
 {
-    let before = Progress {
-        count: progress[0],
-        last: progress[1],
-    };
-    let s = maps::progress::start_core(w, h, done, before);
-    if s.answer != 0 {
-        return s.answer;
-    }
-    let after = s.progress;
-    let stored = [after.count, after.last];
-    *progress = stored;
-    0
+    *progress = <[u32; 2]>::from(start_core(w, h, done)?);
+    Ok(())
 }
 
 // In whatever order the macroblocks come, a finished picture is the right one, and it can always be finished; a lost slice does not spoil the others.
@@ -50,12 +47,12 @@ pub fn jiwarbend_rebuild(
     modes: &[u8],
     chroma_mode: u8,
     numbers: &[i32],
-) -> u32
+) -> Result<(), Refusal>
     ensures rebuilds { Rebuilds
         (call (record { w = w; h = h; x = x; y = y }) (record { luma = luma_stride; cb = cb_stride; cr = cr_stride })
         slices.now (record_of kind modes.now chroma_mode numbers.now))
         (lent luma.old cb.old cr.old done.old (progress_of progress.old))
-        result (lent luma.new cb.new cr.new done.new (progress_of progress.new)) }
+        (number_of result) (lent luma.new cb.new cr.new done.new (progress_of progress.new)) }
     ensures any_order { (g : Picture) → AnyOrder g }
     ensures slices_apart { SlicesApart }
 {
@@ -65,18 +62,17 @@ pub fn jiwarbend_rebuild(
         cb: cb_stride,
         cr: cr_stride,
     };
-    picture::rebuild(
-        spot,
+    let mut planes = Planes {
         luma,
         cb,
         cr,
         strides,
-        done,
-        slices,
-        progress,
+    };
+    let rec = RecordRef {
         kind,
         modes,
         chroma_mode,
         numbers,
-    )
+    };
+    picture::rebuild(spot, &mut planes, done, slices, progress, rec)
 }

@@ -1,6 +1,7 @@
 // The inverse transforms and clipped sums (clause 8.5), in lists and in lent planes.
 ghost use Rattle.std.specs.Prelude.{◌≡◌, true, eqb, length, replicate};
 ghost use Rattle.laws.specs.Answer.{written};
+ghost use Rattle.refusals.specs.Refusal.{number_of};
 ghost use Rattle.numbers.specs.Numbers.{in_range, all_in_range};
 ghost use Rattle.residual.specs.Fits4x4.{Fits4x4};
 ghost use Rattle.residual.specs.Inverse.{inverse4x4, in_range4x4, inverse_answer};
@@ -8,41 +9,44 @@ ghost use Rattle.residual.specs.Reconstruct.{sums, put_square, sum_in, into_answ
 ghost use Rattle.transform_8x8.specs.Fits8x8.{Fits8x8};
 ghost use Rattle.transform_8x8.specs.Inverse8x8.{inverse8x8, in_range8x8};
 
+use refusals::Refusal;
+use residual::reconstruct::Window;
+
 // Where it answers 0, sixteen bits hold every value on the way to the residuals.
-pub fn jiwarbend_inverse_4x4(deq: &[i32], out: &mut [i32]) -> u32
-    ensures value { result ≡ inverse_answer 16 in_range4x4 deq.now (length out.old) }
-    ensures out_after { out.new ≡ written result out.old (inverse4x4 deq.now) }
-    ensures fits4x4 { result ≡ 0 → Fits4x4 deq.now }
+pub fn jiwarbend_inverse_4x4(deq: &[i32], out: &mut [i32]) -> Result<(), Refusal>
+    ensures value { number_of result ≡ inverse_answer 16 in_range4x4 deq.now (length out.old) }
+    ensures out_after { out.new ≡ written (number_of result) out.old (inverse4x4 deq.now) }
+    ensures fits4x4 { number_of result ≡ 0 → Fits4x4 deq.now }
 {
     residual::inverse::inverse_4x4_list(deq, out)
 }
 
 // The same of an 8x8 block.
-pub fn jiwarbend_inverse_8x8(deq: &[i32], out: &mut [i32]) -> u32
-    ensures value { result ≡ inverse_answer 64 in_range8x8 deq.now (length out.old) }
-    ensures out_after { out.new ≡ written result out.old (inverse8x8 deq.now) }
-    ensures fits8x8 { result ≡ 0 → Fits8x8 deq.now }
+pub fn jiwarbend_inverse_8x8(deq: &[i32], out: &mut [i32]) -> Result<(), Refusal>
+    ensures value { number_of result ≡ inverse_answer 64 in_range8x8 deq.now (length out.old) }
+    ensures out_after { out.new ≡ written (number_of result) out.old (inverse8x8 deq.now) }
+    ensures fits8x8 { number_of result ≡ 0 → Fits8x8 deq.now }
 {
     transform_8x8::inverse::inverse_8x8_list(deq, out)
 }
 
-pub fn jiwarbend_reconstruct_4x4(deq: &[i32], pred: &[i32], out: &mut [u8]) -> u32
-    ensures value { result ≡ sums_answer 16 in_range4x4 deq.now pred.now (length out.old) }
-    ensures out_after { out.new ≡ written result out.old (sums 16 (inverse4x4 deq.now) pred.now) }
+pub fn jiwarbend_reconstruct_4x4(deq: &[i32], pred: &[i32], out: &mut [u8]) -> Result<(), Refusal>
+    ensures value { number_of result ≡ sums_answer 16 in_range4x4 deq.now pred.now (length out.old) }
+    ensures out_after { out.new ≡ written (number_of result) out.old (sums 16 (inverse4x4 deq.now) pred.now) }
 {
     residual::reconstruct::reconstruct_4x4_lists(deq, pred, out)
 }
 
-pub fn jiwarbend_add_residual_4x4(res: &[i32], pred: &[i32], out: &mut [u8]) -> u32
-    ensures value { result ≡ sums_answer 16 all_in_range res.now pred.now (length out.old) }
-    ensures out_after { out.new ≡ written result out.old (sums 16 res.now pred.now) }
+pub fn jiwarbend_add_residual_4x4(res: &[i32], pred: &[i32], out: &mut [u8]) -> Result<(), Refusal>
+    ensures value { number_of result ≡ sums_answer 16 all_in_range res.now pred.now (length out.old) }
+    ensures out_after { out.new ≡ written (number_of result) out.old (sums 16 res.now pred.now) }
 {
     residual::reconstruct::add_residual_lists(16, res, pred, out)
 }
 
-pub fn jiwarbend_add_residual_8x8(res: &[i32], pred: &[i32], out: &mut [u8]) -> u32
-    ensures value { result ≡ sums_answer 64 all_in_range res.now pred.now (length out.old) }
-    ensures out_after { out.new ≡ written result out.old (sums 64 res.now pred.now) }
+pub fn jiwarbend_add_residual_8x8(res: &[i32], pred: &[i32], out: &mut [u8]) -> Result<(), Refusal>
+    ensures value { number_of result ≡ sums_answer 64 all_in_range res.now pred.now (length out.old) }
+    ensures out_after { out.new ≡ written (number_of result) out.old (sums 64 res.now pred.now) }
 {
     residual::reconstruct::add_residual_lists(64, res, pred, out)
 }
@@ -55,13 +59,19 @@ pub fn jiwarbend_reconstruct_4x4_into(
     rec: &mut [u8],
     r_off: usize,
     r_stride: usize,
-) -> u32
-    ensures value { result ≡ into_answer (eqb (length deq.now) 16) (in_range4x4 deq.now)
+) -> Result<(), Refusal>
+    ensures value { number_of result ≡ into_answer (eqb (length deq.now) 16) (in_range4x4 deq.now)
         (length pred.now) p_off p_stride (length rec.old) r_off r_stride }
-    ensures rec_after { rec.new ≡ written result rec.old
+    ensures rec_after { rec.new ≡ written (number_of result) rec.old
         (put_square 4 r_off r_stride (sum_in 4 (inverse4x4 deq.now) pred.now p_off p_stride) rec.old) }
 {
-    residual::reconstruct::reconstruct_4x4_into(deq, pred, p_off, p_stride, rec, r_off, r_stride)
+    residual::reconstruct::reconstruct_4x4_into(
+        deq,
+        pred,
+        window(p_off, p_stride),
+        rec,
+        window(r_off, r_stride),
+    )
 }
 
 pub fn jiwarbend_reconstruct_4x4_dc_into(
@@ -72,14 +82,18 @@ pub fn jiwarbend_reconstruct_4x4_dc_into(
     rec: &mut [u8],
     r_off: usize,
     r_stride: usize,
-) -> u32
-    ensures value { result ≡ into_answer true (in_range rval)
+) -> Result<(), Refusal>
+    ensures value { number_of result ≡ into_answer true (in_range rval)
         (length pred.now) p_off p_stride (length rec.old) r_off r_stride }
-    ensures rec_after { rec.new ≡ written result rec.old
+    ensures rec_after { rec.new ≡ written (number_of result) rec.old
         (put_square 4 r_off r_stride (sum_in 4 (replicate 16 rval) pred.now p_off p_stride) rec.old) }
 {
     residual::reconstruct::reconstruct_4x4_dc_into(
-        rval, pred, p_off, p_stride, rec, r_off, r_stride,
+        rval,
+        pred,
+        window(p_off, p_stride),
+        rec,
+        window(r_off, r_stride),
     )
 }
 
@@ -91,11 +105,24 @@ pub fn jiwarbend_add_residual_4x4_into(
     rec: &mut [u8],
     r_off: usize,
     r_stride: usize,
-) -> u32
-    ensures value { result ≡ into_answer (eqb (length res.now) 16) (all_in_range res.now)
+) -> Result<(), Refusal>
+    ensures value { number_of result ≡ into_answer (eqb (length res.now) 16) (all_in_range res.now)
         (length pred.now) p_off p_stride (length rec.old) r_off r_stride }
-    ensures rec_after { rec.new ≡ written result rec.old
+    ensures rec_after { rec.new ≡ written (number_of result) rec.old
         (put_square 4 r_off r_stride (sum_in 4 res.now pred.now p_off p_stride) rec.old) }
 {
-    residual::reconstruct::add_residual_4x4_into(res, pred, p_off, p_stride, rec, r_off, r_stride)
+    residual::reconstruct::add_residual_4x4_into(
+        res,
+        pred,
+        window(p_off, p_stride),
+        rec,
+        window(r_off, r_stride),
+    )
+}
+
+// A place of rows in a buffer.
+fn window(off: usize, stride: usize) -> Window
+    ensures { result ≡ record { off = off; stride = stride } }
+{
+    Window { off, stride }
 }

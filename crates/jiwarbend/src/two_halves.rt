@@ -1,4 +1,5 @@
 // A macroblock call in two halves, for several cores on one picture. C's progress record is its two numbers, one after the other.
+ghost use Rattle.refusals.specs.Refusal.{number_of};
 ghost use Rattle.macroblock.specs.Kinds.{record_of};
 ghost use Rattle.macroblock.specs.declared.Record.{Record};
 ghost use Rattle.maps.specs.Progress.{progress_of};
@@ -9,8 +10,9 @@ ghost use Rattle.halves.specs.InTwo.{InTwo};
 ghost use Rattle.halves.specs.Lasting.{Lasting};
 ghost use Rattle.halves.specs.Workers.{Workers};
 
-use macroblock::Strides;
+use macroblock::{Planes, PlanesRef, RecordRef, Strides};
 use maps::size::Spot;
+use refusals::Refusal;
 
 // What compute leaves in the block, commit puts into the planes: at once it is what the whole call leaves, and later too, as long as the macroblock is undone.
 pub fn jiwarbend_compute(
@@ -32,12 +34,12 @@ pub fn jiwarbend_compute(
     chroma_mode: u8,
     numbers: &[i32],
     block: &mut [u8],
-) -> u32
+) -> Result<(), Refusal>
     ensures computes { Computes
         (call (record { w = w; h = h; x = x; y = y }) (record { luma = luma_stride; cb = cb_stride; cr = cr_stride })
         slices.now (record_of kind modes.now chroma_mode numbers.now))
         (lent luma.now cb.now cr.now done.now (progress_of progress.now))
-        block.old result block.new }
+        block.old (number_of result) block.new }
     ensures in_two { InTwo }
     ensures lasting { (g : Picture) → Lasting g }
 {
@@ -47,21 +49,19 @@ pub fn jiwarbend_compute(
         cb: cb_stride,
         cr: cr_stride,
     };
-    cores::compute::compute(
-        spot,
+    let planes = PlanesRef {
         luma,
         cb,
         cr,
         strides,
-        done,
-        slices,
-        progress,
+    };
+    let rec = RecordRef {
         kind,
         modes,
         chroma_mode,
         numbers,
-        block,
-    )
+    };
+    cores::compute::compute(spot, planes, done, slices, progress, rec, block)
 }
 
 // However workers mix the halves with whole calls, a finished picture is the right one, no result is in vain and nobody gets stuck.
@@ -80,11 +80,11 @@ pub fn jiwarbend_commit(
     slices: &[u16],
     progress: &mut [u32; 2],
     block: &[u8],
-) -> u32
+) -> Result<(), Refusal>
     ensures commits { (m : Record) → Commits
         (call (record { w = w; h = h; x = x; y = y }) (record { luma = luma_stride; cb = cb_stride; cr = cr_stride }) slices.now m)
         block.now (lent luma.old cb.old cr.old done.old (progress_of progress.old))
-        result (lent luma.new cb.new cr.new done.new (progress_of progress.new)) }
+        (number_of result) (lent luma.new cb.new cr.new done.new (progress_of progress.new)) }
     ensures workers { (g : Picture) → Workers g }
 {
     let spot = Spot { w, h, x, y };
@@ -93,5 +93,11 @@ pub fn jiwarbend_commit(
         cb: cb_stride,
         cr: cr_stride,
     };
-    cores::commit::commit(spot, luma, cb, cr, strides, done, slices, progress, block)
+    let mut planes = Planes {
+        luma,
+        cb,
+        cr,
+        strides,
+    };
+    cores::commit::commit(spot, &mut planes, done, slices, progress, block)
 }

@@ -11,6 +11,8 @@ ghost use Rattle.turned.specs.Exchange.{Any, Level};
 ghost use Rattle.turned.specs.TurnedBlock.{TurnedBlock};
 ghost use Rattle.jiwarbend.specs.Exports.{◌has◌};
 
+use refusals::number_of;
+
 #[unsafe(no_mangle)]
 pub extern "C" fn jiwarbend_intra4x4_pred(
     mode: u8,
@@ -28,7 +30,7 @@ pub extern "C" fn jiwarbend_intra4x4_pred(
         (block_of 4 (pred4x4_l mode avail_top avail_left avail_corner (near top.now left.now corner))) }
     ensures turned_block { TurnedBlock 4 pred4x4_l Any }
 {
-    jiwarbend::intra::jiwarbend_intra4x4_pred(
+    number_of(jiwarbend::intra::jiwarbend_intra4x4_pred(
         mode,
         avail_top,
         avail_left,
@@ -37,7 +39,7 @@ pub extern "C" fn jiwarbend_intra4x4_pred(
         left,
         corner,
         out,
-    )
+    ))
 }
 
 #[unsafe(no_mangle)]
@@ -57,7 +59,7 @@ pub extern "C" fn jiwarbend_intra8x8_pred(
         (block_of 8 (pred8x8_l mode avail_top avail_left avail_corner (near top.now left.now corner))) }
     ensures turned_block { TurnedBlock 8 pred8x8_l (Level 8) }
 {
-    jiwarbend::intra::jiwarbend_intra8x8_pred(
+    number_of(jiwarbend::intra::jiwarbend_intra8x8_pred(
         mode,
         avail_top,
         avail_left,
@@ -66,7 +68,7 @@ pub extern "C" fn jiwarbend_intra8x8_pred(
         left,
         corner,
         out,
-    )
+    ))
 }
 
 #[unsafe(no_mangle)]
@@ -85,7 +87,7 @@ pub extern "C" fn jiwarbend_luma16x16_pred(
     ensures out_after { out.new ≡ written result out.old
         (block_of 16 (pred_l mode avail_top avail_left (near top.now left.now corner))) }
 {
-    jiwarbend::intra::jiwarbend_luma16x16_pred(
+    number_of(jiwarbend::intra::jiwarbend_luma16x16_pred(
         mode,
         avail_top,
         avail_left,
@@ -94,7 +96,7 @@ pub extern "C" fn jiwarbend_luma16x16_pred(
         left,
         corner,
         out,
-    )
+    ))
 }
 
 #[unsafe(no_mangle)]
@@ -113,7 +115,7 @@ pub extern "C" fn jiwarbend_chroma8x8_pred(
     ensures out_after { out.new ≡ written result out.old
         (block_of 8 (pred_c mode avail_top avail_left (near top.now left.now corner))) }
 {
-    jiwarbend::intra::jiwarbend_chroma8x8_pred(
+    number_of(jiwarbend::intra::jiwarbend_chroma8x8_pred(
         mode,
         avail_top,
         avail_left,
@@ -122,7 +124,7 @@ pub extern "C" fn jiwarbend_chroma8x8_pred(
         left,
         corner,
         out,
-    )
+    ))
 }
 
 #[unsafe(no_mangle)]
@@ -136,7 +138,7 @@ pub extern "C" fn jiwarbend_luma16x16_dc(
     ensures value { result ≡ answer (2 unless top.now has 16 ∷ 2 unless left.now has 16 ∷ 2 unless out.old has 1 ∷ []) }
     ensures out_after { out.new ≡ written result out.old (dc 16 avail_top avail_left (near top.now left.now 0) ∷ []) }
 {
-    jiwarbend::intra::jiwarbend_luma16x16_dc(avail_top, avail_left, top, left, out)
+    number_of(jiwarbend::intra::jiwarbend_luma16x16_dc(avail_top, avail_left, top, left, out))
 }
 
 #[unsafe(no_mangle)]
@@ -151,5 +153,5 @@ pub extern "C" fn jiwarbend_chroma8x8_dc(
     ensures out_after { out.new ≡ written result out.old
         (block_of 8 (chroma_dc avail_top avail_left (near top.now left.now 0))) }
 {
-    jiwarbend::intra::jiwarbend_chroma8x8_dc(avail_top, avail_left, top, left, out)
+    number_of(jiwarbend::intra::jiwarbend_chroma8x8_dc(avail_top, avail_left, top, left, out))
 }

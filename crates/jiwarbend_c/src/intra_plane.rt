@@ -7,6 +7,8 @@ ghost use Rattle.samples.specs.IntraChroma.{pred_c};
 ghost use Rattle.samples.specs.IntraPlane.{plane_answer};
 ghost use Rattle.basics.specs.Near.{near_in};
 
+use refusals::number_of;
+
 #[unsafe(no_mangle)]
 pub extern "C" fn jiwarbend_i16x16_luma_pred(
     mode: u8,
@@ -19,7 +21,7 @@ pub extern "C" fn jiwarbend_i16x16_luma_pred(
     ensures pred_after { pred.new ≡ written result pred.old
         (block_of 16 (pred_l mode true true (near_in rec.now (base - stride - 1) stride)) ++ drop 256 pred.old) }
 {
-    jiwarbend::intra_plane::jiwarbend_i16x16_luma_pred(mode, pred, rec, base, stride)
+    number_of(jiwarbend::intra_plane::jiwarbend_i16x16_luma_pred(mode, pred, rec, base, stride))
 }
 
 #[unsafe(no_mangle)]
@@ -34,5 +36,5 @@ pub extern "C" fn jiwarbend_chroma8x8_plane_pred(
     ensures pred_after { pred.new ≡ written result pred.old
         (block_of 8 (pred_c mode true true (near_in rec.now (base - stride - 1) stride)) ++ drop 64 pred.old) }
 {
-    jiwarbend::intra_plane::jiwarbend_chroma8x8_plane_pred(mode, pred, rec, base, stride)
+    number_of(jiwarbend::intra_plane::jiwarbend_chroma8x8_plane_pred(mode, pred, rec, base, stride))
 }

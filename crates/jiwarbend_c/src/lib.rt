@@ -1,4 +1,5 @@
 // The library for C and Rust: every function of jiwarbend under its name in C (include/jiwarbend.h). Each export only calls it, and states its clauses again.
+// Numbers, lists with their lengths and places for what a call tells are the C interface.
 #![tactic(auto)]
 
 pub mod intra; // intra prediction

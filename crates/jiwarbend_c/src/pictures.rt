@@ -8,13 +8,15 @@ ghost use Rattle.calls.specs.Rebuild.{call, lent, Rebuilds};
 ghost use Rattle.calls.specs.Run.{Picture};
 ghost use Rattle.slices.specs.SlicesApart.{SlicesApart};
 
+use refusals::number_of;
+
 #[unsafe(no_mangle)]
 pub extern "C" fn jiwarbend_start(w: u32, h: u32, done: &mut [u8], progress: &mut [u32; 2]) -> u32
     ensures value { result ≡ start_answer w h (length done.old) }
     ensures progress_after { progress_of progress.new ≡ written result (progress_of progress.old) begun }
     ensures done_after { done.new ≡ written result done.old (replicate (length done.old) 0) }
 {
-    jiwarbend::pictures::jiwarbend_start(w, h, done, progress)
+    number_of(jiwarbend::pictures::jiwarbend_start(w, h, done, progress))
 }
 
 #[unsafe(no_mangle)]
@@ -45,7 +47,7 @@ pub extern "C" fn jiwarbend_rebuild(
     ensures any_order { (g : Picture) → AnyOrder g }
     ensures slices_apart { SlicesApart }
 {
-    jiwarbend::pictures::jiwarbend_rebuild(
+    number_of(jiwarbend::pictures::jiwarbend_rebuild(
         w,
         h,
         x,
@@ -63,5 +65,5 @@ pub extern "C" fn jiwarbend_rebuild(
         modes,
         chroma_mode,
         numbers,
-    )
+    ))
 }

@@ -1,6 +1,7 @@
 // Scheduling for C: which macroblocks may start now, how many turns a picture takes, and whether another scheduler's order is one.
-ghost use Rattle.std.specs.Prelude.{◌≡◌, List, ℕ, length};
+ghost use Rattle.std.specs.Prelude.{◌≡◌, List, ℕ, length, IfOk};
 ghost use Rattle.laws.specs.Answer.{written};
+ghost use Rattle.refusals.specs.Refusal.{number_of};
 ghost use Rattle.calls.specs.Run.{Picture};
 ghost use Rattle.order_check.specs.Check.{out_of_place, verdict_of, order_answer};
 ghost use Rattle.order_check.specs.Told.{Told};
@@ -12,13 +13,15 @@ ghost use Rattle.turn_list.specs.Turn.{row_counts, count_answer, turn, over, tur
 ghost use Rattle.turns.specs.OneTurn.{OneTurn};
 ghost use Rattle.turns.specs.TurnByTurn.{TurnByTurn};
 
+use refusals::{Refusal, number_of};
+
 #[unsafe(no_mangle)]
 pub extern "C" fn jiwarbend_count_rows(w: u32, h: u32, done: &[u8], rows: &mut [u32]) -> u32
     ensures value { result ≡ count_answer w h (length done.now) (length rows.old) }
     ensures rows_after { rows.new ≡ written result rows.old (row_counts w h done.now) }
     ensures by_index { (slices : List ℕ) → Agreed w h slices done.now }
 {
-    jiwarbend::schedule::jiwarbend_count_rows(w, h, done, rows)
+    number_of(jiwarbend::schedule::jiwarbend_count_rows(w, h, done, rows))
 }
 
 #[unsafe(no_mangle)]
@@ -36,7 +39,10 @@ pub extern "C" fn jiwarbend_turn(
     ensures how_many_after { how_many.new ≡ written result how_many.old (length (turn w h slices.now done.now)) }
     ensures one_turn { (g : Picture) → OneTurn g }
 {
-    jiwarbend::schedule::jiwarbend_turn(w, h, done, slices, rows, list, how_many)
+    told(
+        jiwarbend::schedule::jiwarbend_turn(w, h, done, slices, rows, list),
+        how_many,
+    )
 }
 
 #[unsafe(no_mangle)]
@@ -46,7 +52,7 @@ pub extern "C" fn jiwarbend_turns(w: u32, h: u32, slices: &[u16], turns: &mut u3
     ensures how_many { result ≡ 0 → HowMany w h slices.now }
     ensures turn_by_turn { (g : Picture) → TurnByTurn g }
 {
-    jiwarbend::schedule::jiwarbend_turns(w, h, slices, turns)
+    told(jiwarbend::schedule::jiwarbend_turns(w, h, slices), turns)
 }
 
 #[unsafe(no_mangle)]
@@ -62,7 +68,8 @@ pub extern "C" fn jiwarbend_check_order(
     ensures told { result ≡ 0 → Told w h slices.now }
     ensures replay { (g : Picture) → Replay g }
 {
-    jiwarbend::schedule::jiwarbend_check_order(w, h, slices, order, verdict)
+    let answer = jiwarbend::schedule::jiwarbend_check_order(w, h, slices, order);
+    told(answer.map(u32::from), verdict)
 }
 
 #[unsafe(no_mangle)]
@@ -77,5 +84,19 @@ pub extern "C" fn jiwarbend_out_of_place(
     ensures place_after { place.new ≡ written result place.old (out_of_place w slices.now order.now) }
     ensures told { result ≡ 0 → Told w h slices.now }
 {
-    jiwarbend::schedule::jiwarbend_out_of_place(w, h, slices, order, place)
+    told(
+        jiwarbend::schedule::jiwarbend_out_of_place(w, h, slices, order),
+        place,
+    )
+}
+
+// What C gets of a call that tells a number: 0, with the number in its place, or the refusal's number.
+fn told(outcome: Result<u32, Refusal>, place: &mut u32) -> u32
+    ensures value { result ≡ number_of outcome }
+    ensures place_after { (n : ℕ) → IfOk outcome (λ told. told ≡ n) → place.new ≡ written (number_of outcome) place.old n }
+{
+    if let Ok(number) = outcome {
+        *place = number;
+    }
+    number_of(outcome)
 }

@@ -9,6 +9,8 @@ ghost use Rattle.reads.specs.Exactly.{Exactly, luma4x4, luma8x8, luma16x16, chro
 ghost use Rattle.reads.specs.Groups.{marked, group_set, reads4x4, reads8x8, reads16x16, reads_chroma};
 ghost use Rattle.jiwarbend.specs.Exports.{◌has◌, neighbor};
 
+use refusals::number_of;
+
 #[unsafe(no_mangle)]
 pub extern "C" fn jiwarbend_clip_u8(v: i32) -> u8
     ensures { result ≡ Clip1 v }
@@ -35,7 +37,7 @@ pub extern "C" fn jiwarbend_nnz_raster_from_z(n: &[u8], out: &mut [u8]) -> u32
     ensures value { result ≡ answer (2 unless n.now has 24 ∷ 2 unless out.old has 24 ∷ []) }
     ensures out_after { out.new ≡ written result out.old (in_raster n.now) }
 {
-    jiwarbend::small::jiwarbend_nnz_raster_from_z(n, out)
+    number_of(jiwarbend::small::jiwarbend_nnz_raster_from_z(n, out))
 }
 
 #[unsafe(no_mangle)]

@@ -9,6 +9,8 @@ ghost use Rattle.halves.specs.InTwo.{InTwo};
 ghost use Rattle.halves.specs.Lasting.{Lasting};
 ghost use Rattle.halves.specs.Workers.{Workers};
 
+use refusals::number_of;
+
 // What compute leaves in the block, commit puts into the planes: at once it is what the whole call leaves, and later too, as long as the macroblock is undone.
 #[unsafe(no_mangle)]
 pub extern "C" fn jiwarbend_compute(
@@ -39,7 +41,7 @@ pub extern "C" fn jiwarbend_compute(
     ensures in_two { InTwo }
     ensures lasting { (g : Picture) → Lasting g }
 {
-    jiwarbend::two_halves::jiwarbend_compute(
+    number_of(jiwarbend::two_halves::jiwarbend_compute(
         w,
         h,
         x,
@@ -58,7 +60,7 @@ pub extern "C" fn jiwarbend_compute(
         chroma_mode,
         numbers,
         block,
-    )
+    ))
 }
 
 // However workers mix the halves with whole calls, a finished picture is the right one, no result is in vain and nobody gets stuck.
@@ -85,7 +87,7 @@ pub extern "C" fn jiwarbend_commit(
         result (lent luma.new cb.new cr.new done.new (progress_of progress.new)) }
     ensures workers { (g : Picture) → Workers g }
 {
-    jiwarbend::two_halves::jiwarbend_commit(
+    number_of(jiwarbend::two_halves::jiwarbend_commit(
         w,
         h,
         x,
@@ -100,5 +102,5 @@ pub extern "C" fn jiwarbend_commit(
         slices,
         progress,
         block,
-    )
+    ))
 }

@@ -1,7 +1,7 @@
 // What the programs that replay a list of answers share. A list comes on standard input in parts; a part is the number of its cases and the cases.
 #![tactic(auto)]
 
-ghost use Rattle.std.specs.Prelude.{◌≡◌, true, cond, ◌+◌, ◌*◌, ◌≤◌, ◌<◌, eqb, length, take, slice_index, IfSome, IfOk, OnErr};
+ghost use Rattle.std.specs.Prelude.{◌≡◌, ◌+◌, ◌*◌, ◌≤◌, ◌<◌, length, take, slice_index, IfSome, IfOk, OnErr};
 ghost use Rattle.std.specs.Io.KnownBytes.{Consumes, IsAtEnd};
 ghost use Rattle.lists.specs.Input.{ConsumesSome};
 ghost use Rattle.lists.specs.Numbers.{number_of, number_at, numbers_of, is_set};
@@ -17,6 +17,7 @@ pub fn read_full<R: Read>(input: &mut R, room: &mut [u8]) -> io::Result<usize>
     ensures err { OnErr result (ConsumesSome (R.remaining input.old) (R.remaining input.new)) }
 {
     let mut done = 0;
+    // Each read says where the next begins: no list is gone through.
     while done < room.len() {
         let n = input.read(&mut room[done..])?;
         if n == 0 {
@@ -25,6 +26,44 @@ pub fn read_full<R: Read>(input: &mut R, room: &mut [u8]) -> io::Result<usize>
         done += n;
     }
     Ok(done)
+}
+
+// A part of cases of `size` bytes: tells in how many of them `agrees` says no.
+pub fn part<R: Read, F: Fn(&[u8]) -> bool>(
+    rt: &impl Print,
+    input: &mut R,
+    name: &[u8],
+    size: usize,
+    agrees: F,
+) -> io::Result<()>
+    requires fits { size ≤ 4096 }
+    requires callable { F.IsAlwaysCallable agrees }
+{
+    // The programs allocate nothing.
+    let mut room = [0u8; 4096];
+    let n = how_many(input)?;
+    let wrong = differing(input, n, &mut room[..size], agrees)?;
+    tell(rt, name, n, wrong)
+}
+
+// In how many of the next n cases, each as long as the room for it, `agrees` says no. One that is cut off differs.
+pub fn differing<R: Read, F: Fn(&[u8]) -> bool>(
+    input: &mut R,
+    n: u32,
+    room: &mut [u8],
+    agrees: F,
+) -> io::Result<u32>
+    requires { F.IsAlwaysCallable agrees }
+    ensures { IfOk result (λ wrong. wrong ≤ n) }
+{
+    let mut wrong = 0;
+    // so many cases are done: no more than those can differ
+    for done in 0..n {
+        if read_full(input, room)? != room.len() || !agrees(room) {
+            wrong = more(wrong);
+        }
+    }
+    Ok(wrong)
 }
 
 // The number of a part's cases, with which it begins: two bytes, the lower first.
@@ -36,7 +75,8 @@ pub fn how_many<R: Read>(input: &mut R) -> io::Result<u32>
 {
     let mut head = [0u8; 2];
     read_full(input, &mut head)?;
-    Ok(wide(head[0]) + 256 * wide(head[1]))
+    let [low, high] = head;
+    Ok(u32::from(low) + 256 * u32::from(high))
 }
 
 // One more case that differs, as far as a part can have them.
@@ -52,98 +92,36 @@ pub fn tell(rt: &impl Print, name: &[u8], cases: u32, wrong: u32) -> io::Result<
     println!(rt; ": {cases} cases, {wrong} differ")
 }
 
-// A byte as a wider number.
-pub fn wide(x: u8) -> u32
-    ensures { (result ≡ x) × (result < 256) }
-{
-    x as u32
-}
-
 // Whether a bit is set in a byte of marks: 1, 2, 4 and so on.
 pub fn marked(marks: u8, bit: u8) -> bool
     ensures { result ≡ is_set bit marks }
 {
-    if bit < 1 {
-        return false;
-    }
-    marks / bit % 2 == 1
+    bit != 0 && marks / bit % 2 == 1
 }
 
 // A number of a list: three bytes, the lowest first, and 8388608 more than the number.
 fn number(a: u8, b: u8, c: u8) -> i32
     ensures { result ≡ number_of a b c }
 {
-    (wide(a) + 256 * wide(b) + 65536 * wide(c)) as i32 - 8388608
+    i32::from(a) + 256 * i32::from(b) + 65536 * i32::from(c) - 8388608
 }
 
 // Number k of a run of them, or 0 where it has fewer.
 fn number_at(c: &[u8], k: usize) -> i32
     ensures { result ≡ number_at c.now k }
 {
-    if k >= c.len() / 3 {
-        return 0;
+    if k < c.len() / 3 {
+        number(c[3 * k], c[3 * k + 1], c[3 * k + 2])
+    } else {
+        0
     }
-    number(c[3 * k], c[3 * k + 1], c[3 * k + 2])
 }
 
 // As many numbers as `out` has places.
 pub fn numbers(c: &[u8], out: &mut [i32])
     ensures { out.new ≡ numbers_of (length out.old) c.now }
 {
-    let n = out.len();
-    for k in 0..n {
-        out[k] = number_at(c, k);
-    }
-}
-
-// Whether two runs of bytes are the same.
-pub fn same(p: &[u8], q: &[u8]) -> bool
-    ensures { (result ≡ true → p.now ≡ q.now) × (p.now ≡ q.now → result ≡ true) }
-{
-    if p.len() != q.len() {
-        return false;
-    }
-    let n = p.len();
-    for k in 0..n {
-        if p[k] != q[k] {
-            return false;
-        }
-    }
-    true
-}
-
-// The same for two runs of numbers.
-pub fn same_numbers(p: &[i32], q: &[i32]) -> bool
-    ensures { (result ≡ true → p.now ≡ q.now) × (p.now ≡ q.now → result ≡ true) }
-{
-    if p.len() != q.len() {
-        return false;
-    }
-    let n = p.len();
-    for k in 0..n {
-        if p[k] != q[k] {
-            return false;
-        }
-    }
-    true
-}
-
-// A run of bytes over another of the same length; over one of another length, nothing.
-pub fn copy(to: &mut [u8], from: &[u8])
-    ensures { to.new ≡ cond (eqb (length to.old) (length from.now)) from.now to.old }
-{
-    if to.len() != from.len() {
-        return;
-    }
-    copy_all(to, from);
-}
-
-fn copy_all(to: &mut [u8], from: &[u8])
-    requires { length to.old ≡ length from.now }
-    ensures { to.new ≡ from.now }
-{
-    let n = from.len();
-    for k in 0..n {
-        to[k] = from[k];
+    for (k, number) in out.iter_mut().enumerate() {
+        *number = number_at(c, k);
     }
 }

@@ -4,136 +4,104 @@
 ghost use Rattle.std.specs.Prelude.{◌≡◌, ◌+◌, ◌*◌};
 ghost use Rattle.lists.specs.Numbers.{is_set};
 
-use lists::{marked, read_full, same, wide};
-use macroblock::Strides;
+use lists::{marked, read_full};
+use macroblock::{Planes, RecordRef, Strides};
 use maps::neighbours::Marks;
+use refusals::number_of;
 use std::io;
 use std::io::Read;
 
-// Whether the port gives the next case's answer and leaves every byte of the planes as the list has it.
+// The samples of three planes, at the start of rooms for them.
+#[derive(Clone, Copy, PartialEq, Eq)]
+struct Rooms {
+    luma: [u8; 2048],
+    cb: [u8; 512],
+    cr: [u8; 512],
+}
+
+// How far apart the rows of each plane stand, and how long it is.
+#[derive(Clone, Copy)]
+struct Sizes {
+    strides: Strides,
+    luma: usize,
+    cb: usize,
+    cr: usize,
+}
+
+// Whether the port gives the next case's answer and leaves every byte of the planes as the list has it. A refused call leaves them as they were.
 pub(crate) fn next_agrees(input: &mut impl Read) -> io::Result<bool> {
     let mut head = [0u8; 6];
     let mut modes = [0u8; 16];
-    let mut sizes = [0u8; 12];
+    let mut lengths = [0u8; 12];
     let mut bytes = [0u8; 1152];
     read_full(input, &mut head)?;
     read_full(input, &mut modes)?;
-    read_full(input, &mut sizes)?;
+    read_full(input, &mut lengths)?;
     read_full(input, &mut bytes)?;
-    let mut luma = [0u8; 2048];
-    let mut cb = [0u8; 512];
-    let mut cr = [0u8; 512];
-    if !read(input, &sizes, &mut luma, &mut cb, &mut cr)? {
+    let sizes = sizes_of(&lengths);
+    let mut planes = Rooms {
+        luma: [0; 2048],
+        cb: [0; 512],
+        cr: [0; 512],
+    };
+    if !read(input, sizes, &mut planes)? {
         return Ok(false);
     }
-    let mut luma_after = luma;
-    let mut cb_after = cb;
-    let mut cr_after = cr;
-    if !read_after(
-        input,
-        head[0],
-        &sizes,
-        &mut luma_after,
-        &mut cb_after,
-        &mut cr_after,
-    )? {
+    let mut after = planes;
+    if head[0] == 0 && !read(input, sizes, &mut after)? {
         return Ok(false);
     }
     let mut numbers = [0i32; 384];
     lists::numbers(&bytes, &mut numbers);
-    let answer = rebuild(&head, &modes, &sizes, &numbers, &mut luma, &mut cb, &mut cr);
-    if answer != wide(head[0]) {
-        return Ok(false);
-    }
-    if !same(&luma, &luma_after) {
-        return Ok(false);
-    }
-    if !same(&cb, &cb_after) {
-        return Ok(false);
-    }
-    Ok(same(&cr, &cr_after))
+    let rec = RecordRef {
+        kind: head[4],
+        modes: &modes,
+        chroma_mode: head[5],
+        numbers: &numbers,
+    };
+    let answer = rebuild(&head, sizes, rec, &mut planes);
+    Ok(answer == Some(u32::from(head[0])) && planes == after)
 }
 
-// Reads three planes of the lengths that the sizes give.
-fn read(
-    input: &mut impl Read,
-    sizes: &[u8; 12],
-    luma: &mut [u8],
-    cb: &mut [u8],
-    cr: &mut [u8],
-) -> io::Result<bool> {
-    if !read_plane(input, two(sizes[2], sizes[3]), luma)? {
-        return Ok(false);
+fn sizes_of(b: &[u8; 12]) -> Sizes {
+    let strides = Strides {
+        luma: two(b[0], b[1]),
+        cb: two(b[4], b[5]),
+        cr: two(b[8], b[9]),
+    };
+    Sizes {
+        strides,
+        luma: two(b[2], b[3]),
+        cb: two(b[6], b[7]),
+        cr: two(b[10], b[11]),
     }
-    if !read_plane(input, two(sizes[6], sizes[7]), cb)? {
-        return Ok(false);
-    }
-    read_plane(input, two(sizes[10], sizes[11]), cr)
 }
 
-// Reads the planes after the call; a refused one leaves them as they were.
-fn read_after(
-    input: &mut impl Read,
-    answer: u8,
-    sizes: &[u8; 12],
-    luma: &mut [u8],
-    cb: &mut [u8],
-    cr: &mut [u8],
-) -> io::Result<bool> {
-    if answer != 0 {
-        return Ok(true);
-    }
-    read(input, sizes, luma, cb, cr)
+// Reads three planes of these lengths, and tells whether they had room and were there.
+fn read(input: &mut impl Read, sizes: Sizes, rooms: &mut Rooms) -> io::Result<bool> {
+    Ok(
+        read_plane(input, sizes.luma, &mut rooms.luma)?
+            && read_plane(input, sizes.cb, &mut rooms.cb)?
+            && read_plane(input, sizes.cr, &mut rooms.cr)?,
+    )
 }
 
 fn read_plane(input: &mut impl Read, len: usize, room: &mut [u8]) -> io::Result<bool> {
-    if len > room.len() {
-        return Ok(false);
-    }
-    Ok(read_full(input, &mut room[..len])? == len)
+    Ok(len <= room.len() && read_full(input, &mut room[..len])? == len)
 }
 
-// The port's answer on planes as long as the sizes say; 255 where there is no room for them.
-fn rebuild(
-    head: &[u8; 6],
-    modes: &[u8],
-    sizes: &[u8; 12],
-    numbers: &[i32],
-    luma: &mut [u8],
-    cb: &mut [u8],
-    cr: &mut [u8],
-) -> u32 {
-    let luma_len = two(sizes[2], sizes[3]);
-    let cb_len = two(sizes[6], sizes[7]);
-    let cr_len = two(sizes[10], sizes[11]);
-    if luma_len > luma.len() {
-        return 255;
-    }
-    if cb_len > cb.len() {
-        return 255;
-    }
-    if cr_len > cr.len() {
-        return 255;
-    }
-    let strides = Strides {
-        luma: two(sizes[0], sizes[1]),
-        cb: two(sizes[4], sizes[5]),
-        cr: two(sizes[8], sizes[9]),
+// The port's answer on planes as long as the sizes say, where there is room for them.
+fn rebuild(head: &[u8; 6], sizes: Sizes, rec: RecordRef, rooms: &mut Rooms) -> Option<u32> {
+    let mut planes = Planes {
+        luma: rooms.luma.get_mut(..sizes.luma)?,
+        cb: rooms.cb.get_mut(..sizes.cb)?,
+        cr: rooms.cr.get_mut(..sizes.cr)?,
+        strides: sizes.strides,
     };
-    macroblock::rebuild(
-        wide(head[1]),
-        wide(head[2]),
-        &mut luma[..luma_len],
-        &mut cb[..cb_len],
-        &mut cr[..cr_len],
-        strides,
-        marks(head[3]),
-        true,
-        head[4],
-        modes,
-        head[5],
-        numbers,
-    )
+    let x = u32::from(head[1]);
+    let y = u32::from(head[2]);
+    let answer = macroblock::rebuild(x, y, &mut planes, marks(head[3]), true, rec);
+    Some(number_of(answer))
 }
 
 // The marks of A, B, C and D, which are the bits of a byte.
@@ -152,5 +120,5 @@ fn marks(bits: u8) -> Marks
 fn two(low: u8, high: u8) -> usize
     ensures { result ≡ low + 256 * high }
 {
-    (wide(low) + 256 * wide(high)) as usize
+    usize::from(low) + 256 * usize::from(high)
 }

@@ -17,7 +17,7 @@ fn group(rt: &impl Print, input: &mut impl Read, name: &[u8]) -> io::Result<()> 
 // How many of the next n cases differ.
 fn replay(input: &mut impl Read, n: u32) -> io::Result<u32> {
     let mut wrong = 0;
-    for k in 0..n {
+    for _ in 0..n {
         if !case::next_agrees(input)? {
             wrong = lists::more(wrong);
         }

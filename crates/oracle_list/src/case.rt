@@ -1,31 +1,26 @@
-// What the cases are made of: places, and what is expected of a call.
+// What is expected of a call: its answer, as the list has it in a byte, and what was written.
 ghost use Rattle.std.specs.Prelude.{◌≡◌, true};
+ghost use Rattle.refusals.specs.Refusal.{number_of};
 
-use lists::wide;
+use refusals::{Refusal, number_of};
 
-pub(crate) fn place(x: u8) -> usize
-    ensures { result ≡ x }
+// Whether an answer and the bytes that were written are those of the list.
+pub(crate) fn same(answer: Result<(), Refusal>, out: &[u8], wanted: u8, block: &[u8]) -> bool
+    ensures { (result ≡ true → (number_of answer ≡ wanted) × (out.now ≡ block.now))
+        × (number_of answer ≡ wanted → out.now ≡ block.now → result ≡ true) }
 {
-    x as usize
+    number_of(answer) == u32::from(wanted) && out == block
 }
 
-// Whether an answer and what was written are those of the list.
-pub(crate) fn same(answer: u32, out: &[u8], wanted: u8, block: &[u8]) -> bool
-    ensures { (result ≡ true → (answer ≡ wanted) × (out.now ≡ block.now))
-        × (answer ≡ wanted → out.now ≡ block.now → result ≡ true) }
+// The same of numbers. Over any type `==` would say less than that both are the same.
+pub(crate) fn same_numbers(
+    answer: Result<(), Refusal>,
+    out: &[i32],
+    wanted: u8,
+    block: &[i32],
+) -> bool
+    ensures { (result ≡ true → (number_of answer ≡ wanted) × (out.now ≡ block.now))
+        × (number_of answer ≡ wanted → out.now ≡ block.now → result ≡ true) }
 {
-    if answer != wide(wanted) {
-        return false;
-    }
-    lists::same(out, block)
-}
-
-pub(crate) fn same_numbers(answer: u32, out: &[i32], wanted: u8, block: &[i32]) -> bool
-    ensures { (result ≡ true → (answer ≡ wanted) × (out.now ≡ block.now))
-        × (answer ≡ wanted → out.now ≡ block.now → result ≡ true) }
-{
-    if answer != wide(wanted) {
-        return false;
-    }
-    lists::same_numbers(out, block)
+    number_of(answer) == u32::from(wanted) && out == block
 }

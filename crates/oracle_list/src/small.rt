@@ -1,6 +1,7 @@
 // The routines that never refuse a value.
 use crate::case::same;
-use lists::{marked, numbers, wide};
+use jiwarbend::small;
+use lists::{marked, numbers};
 
 // the number, and its byte
 pub(crate) fn clip_u8(c: &[u8]) -> bool {
@@ -8,16 +9,13 @@ pub(crate) fn clip_u8(c: &[u8]) -> bool {
         return false;
     }
     let mut v = [0i32; 1];
-    numbers(&c[0..3], &mut v);
-    jiwarbend::small::jiwarbend_clip_u8(v[0]) == c[3]
+    numbers(&c[..3], &mut v);
+    small::jiwarbend_clip_u8(v[0]) == c[3]
 }
 
 // the QP, and its chroma QP
 pub(crate) fn chroma_qp(c: &[u8]) -> bool {
-    if c.len() != 2 {
-        return false;
-    }
-    jiwarbend::small::jiwarbend_chroma_qp(c[0]) == c[1]
+    c.len() == 2 && small::jiwarbend_chroma_qp(c[0]) == c[1]
 }
 
 // the marks of left and above, the two numbers, and the context
@@ -25,13 +23,8 @@ pub(crate) fn nc_from_neighbors(c: &[u8]) -> bool {
     if c.len() != 4 {
         return false;
     }
-    let r = jiwarbend::small::jiwarbend_nc_from_neighbors(
-        marked(c[0], 1),
-        c[1],
-        marked(c[0], 2),
-        c[2],
-    );
-    r == wide(c[3]) as i32
+    let r = small::jiwarbend_nc_from_neighbors(marked(c[0], 1), c[1], marked(c[0], 2), c[2]);
+    r == i32::from(c[3])
 }
 
 // 24 numbers in scan order, and in raster order
@@ -40,6 +33,6 @@ pub(crate) fn nnz_raster_from_z(c: &[u8]) -> bool {
         return false;
     }
     let mut out = [0u8; 24];
-    let r = jiwarbend::small::jiwarbend_nnz_raster_from_z(&c[0..24], &mut out);
-    same(r, &out, 0, &c[24..48])
+    let r = small::jiwarbend_nnz_raster_from_z(&c[..24], &mut out);
+    same(r, &out, 0, &c[24..])
 }

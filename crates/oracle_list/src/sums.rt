@@ -1,6 +1,10 @@
 // The inverse and the clipped sums.
-use crate::case::{place, same, same_numbers};
-use lists::{copy, numbers};
+ghost use Rattle.std.specs.Prelude.{◌≤◌};
+
+use crate::case::{same, same_numbers};
+use jiwarbend::reconstruct;
+use lists::numbers;
+use refusals::Refusal;
 
 // the answer, the coefficients, and the residual
 pub(crate) fn inverse(c: &[u8]) -> bool {
@@ -12,111 +16,85 @@ pub(crate) fn inverse(c: &[u8]) -> bool {
     numbers(&c[1..49], &mut deq);
     numbers(&c[49..97], &mut wanted);
     let mut out = [0i32; 16];
-    let r = jiwarbend::reconstruct::jiwarbend_inverse_4x4(&deq, &mut out);
-    same_numbers(r, &out, c[0], &wanted)
+    let answer = reconstruct::jiwarbend_inverse_4x4(&deq, &mut out);
+    same_numbers(answer, &out, c[0], &wanted)
 }
 
-// the answer, coefficients or residual, the prediction, and the block
 pub(crate) fn reconstruct(c: &[u8]) -> bool {
-    if c.len() != 113 {
-        return false;
-    }
-    let mut first = [0i32; 16];
-    let mut pred = [0i32; 16];
-    numbers(&c[1..49], &mut first);
-    numbers(&c[49..97], &mut pred);
-    let mut out = [0u8; 16];
-    let r = jiwarbend::reconstruct::jiwarbend_reconstruct_4x4(&first, &pred, &mut out);
-    same(r, &out, c[0], &c[97..113])
+    summed::<16, _>(c, reconstruct::jiwarbend_reconstruct_4x4)
 }
 
-// the answer, coefficients or residual, the prediction, and the block
 pub(crate) fn add_4x4(c: &[u8]) -> bool {
-    if c.len() != 113 {
-        return false;
-    }
-    let mut first = [0i32; 16];
-    let mut pred = [0i32; 16];
-    numbers(&c[1..49], &mut first);
-    numbers(&c[49..97], &mut pred);
-    let mut out = [0u8; 16];
-    let r = jiwarbend::reconstruct::jiwarbend_add_residual_4x4(&first, &pred, &mut out);
-    same(r, &out, c[0], &c[97..113])
+    summed::<16, _>(c, reconstruct::jiwarbend_add_residual_4x4)
+}
+
+pub(crate) fn add_8x8(c: &[u8]) -> bool {
+    summed::<64, _>(c, reconstruct::jiwarbend_add_residual_8x8)
+}
+
+pub(crate) fn reconstruct_into(c: &[u8]) -> bool {
+    put::<16, _>(c, reconstruct::jiwarbend_reconstruct_4x4_into)
+}
+
+pub(crate) fn flat_into(c: &[u8]) -> bool {
+    put::<1, _>(c, |first, pred, p_off, p_stride, rec, r_off, r_stride| {
+        let value = first.first().copied().unwrap_or(0);
+        reconstruct::jiwarbend_reconstruct_4x4_dc_into(
+            value, pred, p_off, p_stride, rec, r_off, r_stride,
+        )
+    })
+}
+
+pub(crate) fn add_into(c: &[u8]) -> bool {
+    put::<16, _>(c, reconstruct::jiwarbend_add_residual_4x4_into)
 }
 
 // the answer, coefficients or residual, the prediction, and the block
-pub(crate) fn add_8x8(c: &[u8]) -> bool {
-    if c.len() != 449 {
+fn summed<const N: usize, F: Fn(&[i32], &[i32], &mut [u8]) -> Result<(), Refusal>>(
+    c: &[u8],
+    call: F,
+) -> bool
+    requires fits { N ≤ 64 }
+    requires callable { F.IsAlwaysCallable call }
+{
+    if c.len() != 1 + 7 * N {
         return false;
     }
-    let mut first = [0i32; 64];
-    let mut pred = [0i32; 64];
-    numbers(&c[1..193], &mut first);
-    numbers(&c[193..385], &mut pred);
-    let mut out = [0u8; 64];
-    let r = jiwarbend::reconstruct::jiwarbend_add_residual_8x8(&first, &pred, &mut out);
-    same(r, &out, c[0], &c[385..449])
+    let mut first = [0i32; N];
+    let mut pred = [0i32; N];
+    numbers(&c[1..1 + 3 * N], &mut first);
+    numbers(&c[1 + 3 * N..1 + 6 * N], &mut pred);
+    let mut out = [0u8; N];
+    let answer = call(&first, &pred, &mut out);
+    same(answer, &out, c[0], &c[1 + 6 * N..])
 }
 
 // the answer, both places and strides, coefficients or residual, 40 bytes to read, and 60 before and after the call
-pub(crate) fn reconstruct_into(c: &[u8]) -> bool {
-    if c.len() != 213 {
+fn put<
+    const N: usize,
+    F: Fn(&[i32], &[u8], usize, usize, &mut [u8], usize, usize) -> Result<(), Refusal>,
+>(c: &[u8], call: F) -> bool
+    requires fits { N ≤ 64 }
+    requires callable { F.IsAlwaysCallable call }
+{
+    if c.len() != 5 + 3 * N + 160 {
         return false;
     }
-    let mut first = [0i32; 16];
-    numbers(&c[5..53], &mut first);
+    let (given, bytes) = c[5..].split_at(3 * N);
+    let (pred, planes) = bytes.split_at(40);
+    let (before, after) = planes.split_at(60);
+    let mut first = [0i32; N];
+    numbers(given, &mut first);
     let mut rec = [0u8; 60];
-    copy(&mut rec, &c[93..153]);
-    let r = jiwarbend::reconstruct::jiwarbend_reconstruct_4x4_into(
+    rec.copy_from_slice(before);
+    let answer = call(
         &first,
-        &c[53..93],
-        place(c[1]),
-        place(c[2]),
+        pred,
+        usize::from(c[1]),
+        usize::from(c[2]),
         &mut rec,
-        place(c[3]),
-        place(c[4]),
+        usize::from(c[3]),
+        usize::from(c[4]),
     );
-    same(r, &rec, c[0], &c[153..213])
-}
-
-// the answer, both places and strides, coefficients or residual, 40 bytes to read, and 60 before and after the call
-pub(crate) fn flat_into(c: &[u8]) -> bool {
-    if c.len() != 168 {
-        return false;
-    }
-    let mut first = [0i32; 1];
-    numbers(&c[5..8], &mut first);
-    let mut rec = [0u8; 60];
-    copy(&mut rec, &c[48..108]);
-    let r = jiwarbend::reconstruct::jiwarbend_reconstruct_4x4_dc_into(
-        first[0],
-        &c[8..48],
-        place(c[1]),
-        place(c[2]),
-        &mut rec,
-        place(c[3]),
-        place(c[4]),
-    );
-    same(r, &rec, c[0], &c[108..168])
-}
-
-// the answer, both places and strides, coefficients or residual, 40 bytes to read, and 60 before and after the call
-pub(crate) fn add_into(c: &[u8]) -> bool {
-    if c.len() != 213 {
-        return false;
-    }
-    let mut first = [0i32; 16];
-    numbers(&c[5..53], &mut first);
-    let mut rec = [0u8; 60];
-    copy(&mut rec, &c[93..153]);
-    let r = jiwarbend::reconstruct::jiwarbend_add_residual_4x4_into(
-        &first,
-        &c[53..93],
-        place(c[1]),
-        place(c[2]),
-        &mut rec,
-        place(c[3]),
-        place(c[4]),
-    );
-    same(r, &rec, c[0], &c[153..213])
+    same(answer, &rec, c[0], after)
 }

@@ -7,6 +7,6 @@ pub returns-then-k-c : goal.returns-then-k-c
 unfolding number_at
 returns-then-k-c c = grind (arith, common_steps)
 
-pub returns : goal.returns
+pub returns-else-k-c : goal.returns-else-k-c
 unfolding number_at
-returns c = grind (arith, common_steps)
+returns-else-k-c c = grind (arith, common_steps)
