@@ -1,10 +1,12 @@
 -- A list taken 64 numbers at a time, where each quad is m blocks of n. Assumes nothing.
 use mathlib.Core.Path.{◌≡◌, sym, ap, ap₂, ◌∙◌}
-use mathlib.Core.Bool.{Bool}
+use mathlib.Core.Bool.{Bool, cond, ◌&&◌}
 use mathlib.Core.List.{List}
 use Prim.Native.Nat.{ℕ, suc, ◌+◌, ◌*◌, ◌/◌, ◌%◌, ◌<◌, ◌≤◌}
 use native.Mathlib.Nat.{add-mul, mul-add, zero-mod, div-add-mod, div-lt_iff_lt-mul, mul-add-div, mul-add-mod_self_left, mul-div_cancel_left, mul-le-mul_left, mul-suc, mul_assoc, mul_comm}
 use native.Mathlib.Omega.{arith}
+use borrow.Author.Tests.{le-leb}
+use lib.Dec.{leb}
 use lib.IntN.{ℤ, pos}
 use lib.ListN.{length}
 use Rattle.laws.specs.Range.{at}
@@ -16,6 +18,13 @@ use Rattle.laws.proofs.Tests.{all_same, all_groups}
 -- number k of the first 64
 pub kth : (d : List ℤ) (k : ℕ) → k < 64 → at (table 64 (at d)) k ≡ at d k
 kth d k h = get_d_table (pos 0) 64 (at d) k h
+
+-- ---- where there are 64 places: what is told, and what is put
+pub told_in : (n : ℕ) (u : Bool) → 64 ≤ n → leb 64 n && u ≡ u
+told_in n u h = ap (λ b. b && u) (le-leb 64 n h)
+
+pub put_in : (n : ℕ) (new old : List ℤ) → 64 ≤ n → cond (leb 64 n) new old ≡ new
+put_in n new old h = ap (λ b. cond b new old) (le-leb 64 n h)
 
 -- ---- what is made of a quad, and what is told of it, are of its 64 numbers
 abbrev pub quad_of : ℕ → (List ℤ → List ℤ) → List ℤ → List ℤ

@@ -1,5 +1,5 @@
 // The residuals of a list of coefficients, 64 numbers at a time, by either transform.
-ghost use Rattle.std.specs.Prelude.{◌≡◌, true, Bool, cond, List, ◌++◌, ℕ, ◌*◌, ◌≤◌, ℤ, ltb, length, drop, IfOk};
+ghost use Rattle.std.specs.Prelude.{◌≡◌, ◌&&◌, true, Bool, cond, List, ◌++◌, ℕ, ◌*◌, ◌≤◌, ℤ, leb, ltb, length, drop, IfOk};
 ghost use Rattle.laws.specs.Answer.{written};
 ghost use Rattle.laws.specs.Range.{at};
 ghost use Rattle.laws.specs.Table.{table, blockwise, all_blocks};
@@ -29,11 +29,11 @@ pub trait Transform {
 
     ghost in_range: { List ℤ → Bool };
 
-    // The residuals of a quad over the first 64 places of `out`, and whether its blocks are in range.
+    // The residuals of a quad over the first 64 places of `out`, and whether its blocks are in range. A list with fewer places stays as it is, and is told no.
     fn invert_quad(quad: Quad, out: &mut [i16]) -> bool
-        requires { 64 ≤ length out.old }
-        ensures value { result ≡ all_blocks size in_range (table 64 (at quad.entry.numbers.now)) }
-        ensures out_after { out.new ≡ blockwise size inverse (table 64 (at quad.entry.numbers.now)) ++ drop 64 out.old };
+        ensures value { result ≡ (leb 64 (length out.old) && all_blocks size in_range (table 64 (at quad.entry.numbers.now))) }
+        ensures out_after { out.new ≡ cond (leb 64 (length out.old))
+            (blockwise size inverse (table 64 (at quad.entry.numbers.now)) ++ drop 64 out.old) out.old };
 
     ghost in_quads: { InQuads size in_range };
 }

@@ -76,6 +76,9 @@ impl Transform for Blocks4x4 {
 
     // Where no number but the first of each block is other than 0 the residuals of a block are equal, and where none is they are 0.
     fn invert_quad(quad: Quad, out: &mut [i16]) -> bool {
+        if out.len() < 64 {
+            return false;
+        }
         if quad.mark == 0 {
             out[..64].fill(0);
             return true;

@@ -57,6 +57,9 @@ impl Transform for Blocks8x8 {
 
     // Where no number but the first is other than 0 the residuals are equal, and where none is they are 0.
     fn invert_quad(quad: Quad, out: &mut [i16]) -> bool {
+        if out.len() < 64 {
+            return false;
+        }
         if quad.mark == 0 {
             out[..64].fill(0);
             return true;

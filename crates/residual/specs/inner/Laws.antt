@@ -1,6 +1,6 @@
 -- What the 4x4 transform has of a transform of blocks.
-use Rattle.std.specs.Prelude.{refl, ◌&&◌}
-use Rattle.std.proofs.Common.{lit<, arith}
+use Rattle.std.specs.Prelude.{refl, ◌&&◌, ◌<◌}
+use Rattle.std.proofs.Common.{lit<, subst}
 use Rattle.laws.specs.Range.{at}
 use Rattle.laws.specs.Table.{all_below}
 use Rattle.laws.proofs.Tests.{and_left, all_at}
@@ -19,5 +19,5 @@ of_16 = record {
       let rows = all_below 4 (λ i. all_below 4 (λ j. in_range (at (e_row d i) j) && in_range (at (f_row d i) j))) in
       let columns = all_below 4 (λ j. all_below 4 (λ i. in_range (at (g_column d j) i) && last_in_range (at (h_column d j) i))) in
       let first = all_below 16 (λ k. in_range (at d k)) in
-      all_true d (λ k h. all_at 16 (λ k. in_range (at d k)) (and_left first rows (and_left (first && rows) columns e)) k (omega (arith, n)));
+      all_true d (λ k h. all_at 16 (λ k. in_range (at d k)) (and_left first rows (and_left (first && rows) columns e)) k (subst (λ m. k < m) n h));
 }

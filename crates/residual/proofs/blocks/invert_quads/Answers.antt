@@ -4,6 +4,7 @@ use mathlib.Core.Path.{◌≡◌, sym, ap, ◌∙◌}
 use mathlib.Core.Bool.{◌&&◌}
 use Prim.Native.Nat.{◌+◌, ◌*◌, ◌-◌, ◌/◌, ◌≤◌}
 use native.Mathlib.Omega.{arith}
+use borrow.Rule.Slice.PartMut.{mid_of}
 use lib.ListN.{length, get_or, length-take, length-drop}
 use Rattle.laws.specs.Table.{onto}
 use Rattle.laws.proofs.Blockwise.{block_at, block_more, test_next}
@@ -12,7 +13,7 @@ use Rattle.laws.proofs.Tables.{get_d_table, table_same}
 use Rattle.laws.proofs.Tests.{all_none}
 use Rattle.numbers.proofs.InRange.{part_in_range}
 use Rattle.residual.specs.Quads.{coded_quad}
-use Rattle.residual.proofs.InQuads.{quad_of, quad_told, quad_block, quad_range, quads_inverse, quads_range}
+use Rattle.residual.proofs.InQuads.{told_in, put_in, quad_of, quad_told, quad_block, quad_range, quads_inverse, quads_range}
 use Rattle.residual.proofs.Quads.{coded_part}
 use Rattle.residual.proofs.blocks.invert_quads.Goals as goal
 
@@ -32,9 +33,12 @@ invariant_of-quad g c = let l = c.args.list.now in
 pub loop-q-preserved : goal.loop-q-preserved
 loop-q-preserved g c = let t = g.T.Transform in
     let l = c.args.list.now in
-    let h : 64 * c.loop-q.q + 64 ≤ length l = omega (arith, c.requires.list_len.0) in (
-      block_more 64 (quad_of t.size t.inverse) (quad_block t.size t.inverse) c.loop-q.q l c.args.out.now c.loop-q.out c.loop-q.invariant.0 h (sym c.requires.list_len.1) c.invert_quad-good.new.out c.invert_quad-good.ensures.out_after,
-      ap (λ t. c.loop-q.good && t) c.invert_quad-good.ensures.value ∙ test_next 64 (quad_told t.size t.in_range) (quad_range t.size t.in_range) l c.loop-q.q c.loop-q.good h c.loop-q.invariant.1,
+    let h : 64 * c.loop-q.q + 64 ≤ length l = omega (arith, c.requires.list_len.0) in
+    let o = mid_of (64 * c.loop-q.q) (length c.loop-q.out - 64 * c.loop-q.q) c.loop-q.out in
+    let room : 64 ≤ length o = simp (length-take, length-drop) (omega arith) in (
+      block_more 64 (quad_of t.size t.inverse) (quad_block t.size t.inverse) c.loop-q.q l c.args.out.now c.loop-q.out c.loop-q.invariant.0 h (sym c.requires.list_len.1)
+          c.invert_quad-good.new.out (c.invert_quad-good.ensures.out_after ∙ put_in (length o) _ o room),
+      ap (λ t. c.loop-q.good && t) (c.invert_quad-good.ensures.value ∙ told_in (length o) _ room) ∙ test_next 64 (quad_told t.size t.in_range) (quad_range t.size t.in_range) l c.loop-q.q c.loop-q.good h c.loop-q.invariant.1,
     )
 
 pub returns : goal.returns
