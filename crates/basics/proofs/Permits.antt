@@ -7,7 +7,7 @@ use Prim.Native.Nat.{ℕ, zero, suc, ◌+◌, ◌-◌, ◌*◌, ◌/◌, ◌%◌
 use native.Mathlib.Omega.{arith}
 use native.Mathlib.Nat.{zero-mul, one-mul, mul_assoc, div-eq_of_lt, lt_of_lt_of_le, two-pow-succ, add-mul-div_right, eq-or-lt_of_le}
 use native.Mathlib.Decide.{dec_lt}
-use lib.Dec.{eqb, ltb, lit<}
+use lib.Dec.{T, eqb, ltb, lit<, ltb→lt}
 use lib.Bits.{bit_and, bit_or, and_high}
 use lib.Pow.{pow_pos, pow_mono, pow-add, shl_exact}
 use borrow.Author.Tests.{ne_eqb, lt-ltb, le-ltb}
@@ -114,3 +114,18 @@ pub set_chroma : (a l c : Bool) → bit_or (bit_or (bit_or 1 (cond l 2 0)) (cond
 unfolding mode_set sum_of
 set_chroma = by_marks_lem (λ a l c. bit_or (bit_or (bit_or 1 (cond l 2 0)) (cond a 4 0)) (cond (a && l && c) 8 0) ≡ mode_set 4 (permitted_chroma a l c))
     refl refl refl refl refl refl refl refl
+
+-- ---- modes past the last
+-- a number from n on is none of those below n
+other : (n m k : ℕ) → n ≤ m → T (ltb k n) → eqb m k ≡ false
+other n m k h t = ne_eqb m k (omega (arith, ltb→lt k n t))
+
+pub past_nxn : (a l c : Bool) (m : ℕ) → 8 < m → permitted_nxn a l c m ≡ false
+past_nxn a l c m h =
+    rw (other 9 m 0 h tt, other 9 m 3 h tt, other 9 m 7 h tt, other 9 m 1 h tt, other 9 m 8 h tt, other 9 m 2 h tt, other 9 m 4 h tt, other 9 m 5 h tt, other 9 m 6 h tt)
+
+pub past_16x16 : (a l c : Bool) (m : ℕ) → 3 < m → permitted16x16 a l c m ≡ false
+past_16x16 a l c m h = rw (other 4 m 0 h tt, other 4 m 1 h tt, other 4 m 2 h tt, other 4 m 3 h tt)
+
+pub past_chroma : (a l c : Bool) (m : ℕ) → 3 < m → permitted_chroma a l c m ≡ false
+past_chroma a l c m h = rw (other 4 m 0 h tt, other 4 m 1 h tt, other 4 m 2 h tt, other 4 m 3 h tt)

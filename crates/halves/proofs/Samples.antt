@@ -36,7 +36,7 @@ module _ (f : Plane → ℕ → ℕ → ℕ) where
   piece_long : (p : Plane) → length (piece p) ≡ side p * side p
   piece_long p = length_table 0 (side p * side p) _
 
-  block_long : length (block_by f) ≡ 384
+  pub block_long : length (block_by f) ≡ 384
   block_long =
       let e₁ : length (piece luma) ≡ 256 = piece_long luma in
       let e₂ : length (piece cb) ≡ 64 = piece_long cb in
@@ -57,7 +57,7 @@ module _ (f : Plane → ℕ → ℕ → ℕ) where
       ∙ get_or-append-add (piece luma) (piece cb ++ piece cr) (length (piece cb) + k) 0
       ∙ get_or-append-add (piece cb) (piece cr) k 0
 
-  block_at_lem : (p : Plane) (i j : ℕ) → i < side p → j < side p → sample_of (block_by f) p i j ≡ f p i j
+  pub block_at_lem : (p : Plane) (i j : ℕ) → i < side p → j < side p → sample_of (block_by f) p i j ≡ f p i j
   block_at_lem p i j hi hj =
       let q = side p in
       piece_at p (j * q + i) (digits_lt hj hi) ∙ get_d_table 0 (q * q) _ (j * q + i) (digits_lt hj hi) ∙ ap₂ (f p) (digits_mod j hi) (digits_div j hi)

@@ -147,7 +147,7 @@ module _ (c : Cut) (rule : Rule) (marks : Side → Bool) (S : Scan c.across) (so
   in_block_line : (z i n : ℕ) → n ≡ i / q → z * w + i ≡ (z * m + n) * q + i % q
   in_block_line z i n e = omega (arith, whole_mul q m z, div-add-mod' i q, add-mul (z * m) n q, ap (λ k. k * q) e)
 
-  square_moved : SameLeft (c.side * c.across) (λ x y s. all_parts c rule s x y marks) u v
+  pub square_moved : SameLeft (c.side * c.across) (λ x y s. all_parts c rule s x y marks) u v
   square_moved i j hi hj =
       let hx : i / q < m = line_of q m i some hi in
       let hy : j / q < m = line_of q m j some hj in

@@ -114,7 +114,7 @@ module _ (w h : ℕ) (slices : List ℕ) where
     out l p = not_both (entry_yes order w slices (out_of_place w slices order) p) (leads.stop l)
 
     -- the list's end is told exactly where all are in place
-    end_yes : out_of_place w slices order ≡ length order → verdict_of w slices order ≡ 1
+    pub end_yes : out_of_place w slices order ≡ length order → verdict_of w slices order ≡ 1
     end_yes e = verdict_yes (all_of_lem (length order) ok (λ i l. leads.all i (omega (arith, e))))
 
     end_is : verdict_of w slices order ≡ 1 → out_of_place w slices order ≡ length order
@@ -124,7 +124,7 @@ module _ (w h : ℕ) (slices : List ℕ) where
         go (yes l) = absurd (not_both (all_at (length order) ok (verdict_is e) (out_of_place w slices order) l) (leads.stop l))
         go (no l) = omega (arith, leads.most)
 
-    end_no : ¬ (out_of_place w slices order ≡ length order) → verdict_of w slices order ≡ 0
+    pub end_no : ¬ (out_of_place w slices order ≡ length order) → verdict_of w slices order ≡ 0
     end_no n = verdict_no (λ v. n (end_is v))
 
     -- the place that is told is the list's end exactly where it is yes

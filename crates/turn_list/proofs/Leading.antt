@@ -3,7 +3,7 @@ use mathlib.Core.Path.{◌≡◌, refl, sym, ap, ap₂, subst, ◌∙◌}
 use mathlib.Core.Bool.{Bool, true, false, cond, ◌&&◌}
 use mathlib.Core.List.{List, [], ◌∷◌, ◌++◌}
 use Prim.Native.Nat.{ℕ, zero, suc, ◌+◌, ◌*◌, ◌<◌, ◌≤◌, zero-le}
-use native.Mathlib.Nat.{not-suc-le-zero, mul-zero, mul-suc}
+use native.Mathlib.Nat.{not-suc-le-zero, mul-zero, mul-suc, mul-le-mul_right, suc-mul}
 use native.Mathlib.Decide.{dec_lt}
 use native.Mathlib.Omega.{arith}
 use lib.ListN.{get_or, length, take, drop}
@@ -136,3 +136,7 @@ by_groups n (suc k) l h = go (list_all is_one (take n l)) refl (by_groups n k (d
 -- a map with a count for each row
 pub fitting : (w h : ℕ) (done rows : List ℕ) → Size w h → length done ≡ total w h → length rows ≡ h → Fitting w done rows
 fitting w h done rows s l e = record { size = subst (Size w) (sym e) s; long = l ∙ ap (total w) (sym e) }
+
+-- a row lies in the map
+pub row_in : (w y : ℕ) (done rows : List ℕ) → Fitting w done rows → y < length rows → (w ≤ 120) × (y < 68) × (y * w + w ≤ length done)
+row_in w y done rows m l = (m.size.most_w, omega (arith, m.size.most_h), omega (arith, m.long, mul-le-mul_right w l, suc-mul y w))
