@@ -53,6 +53,8 @@ fn first_out(map: SliceMap, order: &[u32]) -> u32
 }
 
 // An entry is out of place where its macroblock was named before, or comes before a neighbour. The places are noted in a table with room for N macroblocks.
+// Tried and slower where it is inlined: then a list that is refused makes room for the large table as well.
+#[inline(never)]
 fn first_by_places<const N: usize>(map: SliceMap, order: &[u32]) -> u32
     requires { Checkable map.w map.h map.slices.now order.now × (total map.w map.h ≤ N) × (N ≤ 8160) }
     ensures { result ≡ out_of_place map.entry.w map.entry.slices.now order.now }

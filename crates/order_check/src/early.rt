@@ -33,9 +33,23 @@ impl Placed<'_> {
         let mut first = u16::MAX;
         // a column by its number, as the rows
         for x in 0..self.map.w {
-            first = first.min(self.early_at(x, 0));
+            first = first.min(self.early_in_first_row(x));
         }
         first
+    }
+
+    // The place of a macroblock of the first row if it comes too early: it has no neighbour but the one on its left. They are looked at side by side: tried and
+    // slower by `early_at`, with its ways out.
+    fn early_in_first_row(self, x: u32) -> u16
+        requires { x < self.map.w }
+        ensures { result ≡ if_early self.entry.map.w self.entry.map.slices.now self.entry.places.now x 0 }
+    {
+        let here = x as usize;
+        let left = here.saturating_sub(1);
+        let slices = self.map.slices;
+        let places = self.places;
+        let a = (x > 0) & (slices[left] == slices[here]) & (places[here] <= places[left]);
+        place_if(a, places[here])
     }
 
     // The same of a row below: its ends, and what stands between them.
@@ -49,7 +63,8 @@ impl Placed<'_> {
         inner.min(left.min(right))
     }
 
-    // The place of macroblock (x, y) if it comes too early, and u16::MAX if not.
+    // The place of macroblock (x, y) if it comes too early, and u16::MAX if not. Tried and slower as a call, which gets the map and the table through memory.
+    #[inline]
     fn early_at(self, x: u32, y: u32) -> u16
         requires { Stands self.map.w self.map.h x y }
         ensures { result ≡ if_early self.entry.map.w self.entry.map.slices.now self.entry.places.now x y }

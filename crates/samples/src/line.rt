@@ -1,5 +1,5 @@
 // Lines of samples beside a block: read, summed, and copied over a block.
-ghost use Rattle.std.specs.Prelude.{◌≡◌, ◌+◌, ◌*◌, ◌/◌, ◌%◌, ◌≤◌, ◌<◌, length, replicate};
+ghost use Rattle.std.specs.Prelude.{◌≡◌, ◌+◌, ◌*◌, ◌/◌, ◌%◌, ◌≤◌, ◌<◌, length, get_or, replicate};
 ghost use Rattle.laws.specs.Table.{table, sum_of, onto};
 ghost use Rattle.samples.specs.inner.Line.{sample, Reaches, line, lists};
 
@@ -102,7 +102,18 @@ pub(crate) fn down<const N: usize>(top: Line, out: &mut [u8])
     let row: [u8; N] = top.first();
     // y is the row's number, from which its place follows.
     for y in 0..N {
-        out[y * N..y * N + N].copy_from_slice(&row);
+        put_row(&row, &mut out[y * N..y * N + N]);
+    }
+}
+
+// A row of a block, sample by sample: rows of eight that are copied as lists are stored one by one and not two at a time, and the block takes a tenth longer.
+fn put_row<const N: usize>(row: &[u8; N], out: &mut [u8])
+    requires { N ≤ length out.old }
+    ensures { out.new ≡ onto N (λ k. get_or row.now k 0) out.old }
+{
+    // k is a place of both.
+    for k in 0..N {
+        out[k] = row[k];
     }
 }
 

@@ -30,15 +30,16 @@ pub(crate) fn plane_over(m: usize, k: u8, around: Around, out: &mut [u8])
     ramp_over(2 * m, m - 1, levels_of(m, k, around), out);
 }
 
-// a, b and c, from the samples beside the block.
+// a, b and c, from the samples beside the block. Left is read first: where this and vertical prediction both begin above, half of that row is read before
+// the mode is known, and vertical prediction then joins its rows from halves.
 #[inline(always)]
 fn levels_of(m: usize, k: u8, around: Around) -> Levels
     requires { (1 ≤ m) × (m ≤ 8) × (k ≤ 34) × Round (2 * m) around }
     ensures small { Within 8160 result.a × Within 2219552 result.b × Within 2219552 result.c }
     ensures sloped { (p : Near) → Stands (2 * m) around.entry p → around.entry.corner ≡ p 0 0 → Sloped m k p result.a result.b result.c }
 {
-    let e = line_of(2 * m, around.corner, around.above);
     let f = line_of(2 * m, around.corner, around.left);
+    let e = line_of(2 * m, around.corner, around.above);
     Levels {
         a: level_of(around.left.get(2 * m - 1), around.above.get(2 * m - 1)),
         b: gradient_of(k, slope_of(&e, m)),

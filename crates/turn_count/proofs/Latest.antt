@@ -43,32 +43,25 @@ pub latest_more : (n : ℕ) (f : ℕ → ℕ) (m d : ℕ) → m ≡ latest n f �
 unfolding latest
 latest_more n f m d e g = rw (add-one n, e, g)
 
--- a row whose first k numbers are the largest so far, and whose others stand
+-- a row whose first k numbers are the largest so far of another row
 pub record Running (old : List ℕ) (k last : ℕ) (now : List ℕ) : Type 0 where
   pub largest : last ≡ latest k (λ j. get_or old j 0)
   pub long : length now ≡ length old
   pub passed : (i : ℕ) → i < k → get_or now i 0 ≡ latest (i + 1) (λ j. get_or old j 0)
-  pub rest : (i : ℕ) → k ≤ i → get_or now i 0 ≡ get_or old i 0
 
-pub running_none : (old : List ℕ) → Running old 0 0 old
-running_none old = record {
-  largest = latest_none (λ j. get_or old j 0);
-  long = refl;
-  passed = λ i h. absurd (not-suc-le-zero h);
-  rest = λ i h. refl;
-}
+pub running_none : (old now : List ℕ) → length now ≡ length old → Running old 0 0 now
+running_none old now e = record { largest = latest_none (λ j. get_or old j 0); long = e; passed = λ i h. absurd (not-suc-le-zero h) }
 
-pub running_more : (old now : List ℕ) (k last n : ℕ) → k < length now → n ≡ max last (get_or now k 0) → Running old k last now
+pub running_more : (old now : List ℕ) (k last n : ℕ) → k < length now → n ≡ max last (get_or old k 0) → Running old k last now
     → Running old (k + 1) n (set now k n)
 running_more old now k last n h e r = record {
   largest = more;
   long = length-set now k n ∙ r.long;
   passed = λ i l. at i l (ℕ_discrete i k);
-  rest = λ i l. get_or-set_other now k i n 0 (omega arith) ∙ r.rest i (omega arith);
 }
   where
     more : n ≡ latest (k + 1) (λ j. get_or old j 0)
-    more = e ∙ latest_more k (λ j. get_or old j 0) last (get_or now k 0) r.largest (r.rest k (omega arith))
+    more = e ∙ latest_more k (λ j. get_or old j 0) last (get_or old k 0) r.largest refl
 
     at : (i : ℕ) → i < k + 1 → Dec (i ≡ k) → get_or (set now k n) i 0 ≡ latest (i + 1) (λ j. get_or old j 0)
     at i l (yes q) = rw q (get_or-set_same now k n 0 h ∙ more)

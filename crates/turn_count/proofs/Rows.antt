@@ -119,14 +119,14 @@ module _ (w : ℕ) (slices : List ℕ) (y : ℕ) where
 
   -- ---- the whole row
   -- the numbers of which those of the row are run on: its w columns are put, and what stands behind them does not count
-  pub row_run : (above front : List ℕ) (r : ℕ) → 0 < w → w ≤ 120 → AboveRow w slices y above → RunOn (take w above) front
+  pub row_run : (above row front : List ℕ) (r : ℕ) → 0 < w → w ≤ 120 → length row ≡ 120 → AboveRow w slices y above → RunOn (take w above) front
       → r ≡ latest (length (take w above)) (λ j. get_or (take w above) j 0)
-      → (r ≡ late w slices (w - 1) y) × LateRow w slices y (front ++ drop w above)
-  row_run above front r p m a u e = (
+      → (r ≡ late w slices (w - 1) y) × LateRow w slices y (front ++ drop w row)
+  row_run above row front r p m n a u e = (
     last,
     record {
-      long = length-append front (drop w above) ∙ omega (arith, u.long, long, length-drop w above, a.long);
-      is = λ i l. get_or-append front (drop w above) 0 i (omega (arith, u.long, long)) ∙ u.is i (omega (arith, long)) ∙ upto i l;
+      long = length-append front (drop w row) ∙ omega (arith, u.long, long, length-drop w row, n);
+      is = λ i l. get_or-append front (drop w row) 0 i (omega (arith, u.long, long)) ∙ u.is i (omega (arith, long)) ∙ upto i l;
     },
   )
     where
@@ -143,6 +143,23 @@ module _ (w : ℕ) (slices : List ℕ) (y : ℕ) where
       last =
           let q : length (take w above) ≡ w - 1 + 1 = omega (arith, long) in
           e ∙ ap (λ n. latest n (λ j. get_or (take w above) j 0)) q ∙ upto (w - 1) (omega arith)
+
+  -- a single column is as late as those above make it
+  pub row_single : (row : List ℕ) (n : ℕ) → w ≡ 1 → length row ≡ 120 → n ≡ late_above w slices 0 y
+      → (n ≡ late w slices (w - 1) y) × LateRow w slices y (set row 0 n)
+  row_single row n e l a = (
+    is ∙ ap (λ i. late w slices i y) q,
+    record { long = length-set row 0 n ∙ l; is = λ i h. let z : i ≡ 0 = omega (arith, e) in rw z (get_or-set_same row 0 n 0 (omega (arith, l)) ∙ is) },
+  )
+    where
+      is : n ≡ late w slices 0 y
+      is =
+          let f : ℕ → ℕ = λ j. late_above w slices j y in
+          let most : n ≡ max 0 n = omega arith in
+          most ∙ latest_more 0 f 0 n (latest_none f) a ∙ sym (late_latest w slices 0 y)
+
+      q : 0 ≡ w - 1
+      q = omega (arith, e)
 
   pub row_flat : (n : ℕ) → 0 < w → w ≤ 120 → late_above w slices 0 y ≡ n → n ≡ late w slices (w - 1) (y - 1) + 2
       → (n ≡ late w slices (w - 1) y) × LateRow w slices y (replicate 120 n)

@@ -67,13 +67,16 @@ pub(crate) fn late_row(map: SliceMap, y: u32, row: &mut [u8; 120]) -> u8
         *row = [most; 120];
         return most;
     }
+    // a single column has none before it in its row: worked out in a row of its own as the others are it is slower
+    if w == 1 {
+        row[0] = first;
+        return first;
+    }
     let mut above = [0; 120];
     above[0] = first;
     above[w - 1] = under.late_at(map.w - 1);
     under.late_between(&mut above);
-    let last = run_on(&mut above[..w]);
-    *row = above;
-    last
+    run_on(&above[..w], &mut row[..w])
 }
 
 // A number where something is so, and 0 where it is not.
@@ -83,15 +86,17 @@ fn if_so(so: bool, n: u8) -> u8
     if so { n } else { 0 }
 }
 
-// A row from the left: each macroblock is at least as late as the one before it. Answers how late the last one is.
-fn run_on(row: &mut [u8]) -> u8
-    ensures row { RunOn row.old row.new }
-    ensures last { result ≡ latest (length row.old) (λ i. get_or row.old i 0) }
+// A row from the left, by what those above make of it: each macroblock is at least as late as the one before it. Answers how late the last one is. Its columns
+// alone are written: a copy of all 120 places is slower where the picture is narrow.
+fn run_on(above: &[u8], row: &mut [u8]) -> u8
+    requires { length row.old ≡ length above.now }
+    ensures row { RunOn above.now row.new }
+    ensures last { result ≡ latest (length above.now) (λ i. get_or above.now i 0) }
 {
     let mut last: u8 = 0;
-    for late in row {
+    for (x, late) in above.iter().enumerate() {
         last = last.max(*late);
-        *late = last;
+        row[x] = last;
     }
     last
 }

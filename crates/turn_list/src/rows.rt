@@ -51,7 +51,8 @@ pub(crate) fn rows_agree(w: u32, done: &[u8], rows: &[u32]) -> bool
     true
 }
 
-// How many macroblocks of row y are done from the left without a gap.
+// How many macroblocks of row y are done from the left without a gap. It stands within its callers' loops: a call of its own for each row is slower.
+#[inline(always)]
 fn done_from_left(done: &[u8], w: usize, y: usize) -> u32
     requires { (w ≤ 120) × (y < 68) × (y * w + w ≤ length done.now) }
     ensures { result ≡ gapless w done.now y }

@@ -6,8 +6,8 @@ use native.Mathlib.Numerals.{add-one}
 use native.Mathlib.Omega.{arith}
 use lib.Arith.{digits_mod}
 use Rattle.laws.proofs.Digits.{row_in}
-use Rattle.laws.proofs.Ontos.{onto_none}
-use Rattle.laws.proofs.Tables.{table_same}
+use Rattle.laws.proofs.Ontos.{onto_none, onto_all}
+use Rattle.laws.proofs.Tables.{get_d_table, table_same}
 use Rattle.samples.specs.inner.Line.{sample}
 use Rattle.samples.proofs.Rows.{row_put}
 use Rattle.samples.proofs.line.down.Goals as goal
@@ -23,5 +23,5 @@ loop-y-preserved g c =
     let next : y * n + n ≡ (y + 1) * n = rw add-one (sym (suc-mul y n)) in
     let wide : y * n + n - y * n ≡ n = omega arith in
     rw (← next) (row_put (y * n) (y * n + n) _ _ c.loop-y.out _ (omega arith) (omega (arith, row_in y n h)) c.loop-y.invariant
-    (c.copy_from_slice.ensures.after ∙ c.first-row.ensures
-    ∙ rw wide (table_same n _ _ (λ x l. ap (sample c.args.top) (sym (digits_mod y {m = n} {r = x} l))))))
+    (c.put_row.ensures ∙ onto_all n _ _ (omega arith)
+    ∙ rw wide (table_same n _ _ (λ x l. rw (c.first-row.ensures, get_d_table 0 n (sample c.args.top) x l) (ap (sample c.args.top) (sym (digits_mod y {m = n} {r = x} l)))))))

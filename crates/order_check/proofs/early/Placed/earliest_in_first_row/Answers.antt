@@ -8,7 +8,7 @@ pub loop-x-preserved : goal.loop-x-preserved
 loop-x-preserved c = let l = c.loop-x in
     let s = c.args.self in
     subst (Least (EarlyBetween s.map.w s.map.slices.now s.places.now 0 0 (l.x + 1))) (sym c.min-first.ensures)
-    (between_more s.map.w s.map.slices.now s.places.now 0 0 l.x l.first c.early_at.result (omega arith) l.invariant c.early_at.ensures)
+    (between_more s.map.w s.map.slices.now s.places.now 0 0 l.x l.first c.early_in_first_row.result (omega arith) l.invariant c.early_in_first_row.ensures)
 
 pub returns : goal.returns
 returns c = let l = c.loop-x in
